@@ -1,0 +1,13 @@
+-- What is proved of the meaning.
+pub mod Heights
+pub mod Figures
+pub mod Sessions
+pub mod Lines
+pub mod Lists
+pub mod FreshLaws
+pub mod Reaching
+pub mod Shared
+pub mod Damaged
+pub mod Shapes
+pub mod Answers
+pub mod Batches

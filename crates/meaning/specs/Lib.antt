@@ -1,0 +1,20 @@
+-- The meaning of document 01, in reading order.
+pub mod Limits
+pub mod Counting
+pub mod Lent
+pub mod Shape
+pub mod Trees
+pub mod Walks
+pub mod Links
+pub mod WellFormed
+pub mod Fresh
+pub mod Table
+pub mod Stands
+pub mod Frames
+pub mod Operations
+pub mod Costs
+pub mod Checks
+pub mod Effects
+pub mod Serve
+pub mod Batch
+pub mod Program

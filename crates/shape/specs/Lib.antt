@@ -1,0 +1,2 @@
+-- What is asked of callers.
+pub mod Legal
