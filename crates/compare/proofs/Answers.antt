@@ -1,0 +1,49 @@
+-- What each return of the code answers, from what it found at place i of the two contents.
+use mathlib.Core.Path.{_≡_, refl, sym, ap, ap₂, _∙_}
+use mathlib.Core.List.{List, [], _∷_}
+use Prim.Native.Nat.{ℕ, zero, suc, _+_, _≤_, _<_, min}
+use native.Mathlib.Numerals.{add-one}
+use native.Mathlib.Omega.{arith}
+use lib.ListN.{length, getD, drop}
+use Rattle.meaning.specs.Trees.{heightOf}
+use Rattle.meaning.specs.Effects.{before, after, order}
+use Rattle.records.specs.Records.{recordOf}
+use Rattle.records.specs.declared.Version.{Version}
+use Rattle.lookup.specs.Lookup.{elementIn}
+use Rattle.lookup.proofs.Found.{contents-at, contents-length}
+use Rattle.compare.specs.Compare.{orderingOf, byLength, contentsIn, ordering}
+use Rattle.compare.specs.declared.Ordering.{Ordering}
+use Rattle.compare.specs.declared.Ordering.the-variants.{Less, Equal, Greater}
+use Rattle.compare.proofs.Turns.{order-less, order-greater, order-goes-on, order-ends}
+
+-- what a lookup found is the contents' element
+pub item-at : (cells : List ℕ) (v : Version) (h i x : ℕ) → h ≡ heightOf (recordOf v) → i < v .length → x ≡ elementIn cells (v .bits) h (v .root) i → x ≡ getD (contentsIn cells v) i 0
+item-at cells v h i x e l f = f ∙ ap (λ (k : ℕ). elementIn cells (v .bits) k (v .root) i) e ∙ contents-at (record { kinds = []; used = []; cells = cells }) (recordOf v) i l
+
+pub size-of : (cells : List ℕ) (v : Version) → length (contentsIn cells v) ≡ v .length
+size-of cells v = contents-length (record { kinds = []; used = []; cells = cells }) (recordOf v)
+
+-- the two lists have one order from place i on and from the start
+abbrev pub SameFrom : (cells : List ℕ) → (a b : Version) → (i : ℕ) → Type 0
+SameFrom cells a b i = order (drop i (contentsIn cells a)) (drop i (contentsIn cells b)) ≡ order (contentsIn cells a) (contentsIn cells b)
+
+module _ (cells : List ℕ) (a b : Version) (i x y : ℕ) (ha : i < a .length) (hb : i < b .length)
+    (ex : x ≡ getD (contentsIn cells a) i 0) (ey : y ≡ getD (contentsIn cells b) i 0) (inv : SameFrom cells a b i) where
+  pub answers-less : x < y → Less ≡ ordering cells a b
+  unfolding ordering
+  answers-less l = ap orderingOf (sym (order-less (contentsIn cells a) (contentsIn cells b) i (rw size-of ha) (rw size-of hb) (omega arith)) ∙ inv)
+
+  pub answers-greater : y < x → Greater ≡ ordering cells a b
+  unfolding ordering
+  answers-greater l = ap orderingOf (sym (order-greater (contentsIn cells a) (contentsIn cells b) i (rw size-of ha) (rw size-of hb) (omega arith)) ∙ inv)
+
+  pub goes-on : y ≤ x → x ≤ y → SameFrom cells a b (i + 1)
+  goes-on l m =
+      rw add-one (sym (order-goes-on (contentsIn cells a) (contentsIn cells b) i (rw size-of ha) (rw size-of hb) (omega arith) (omega arith)) ∙ inv)
+
+pub answers-by-length : (cells : List ℕ) (a b : Version) (i : ℕ) → i ≡ min (a .length) (b .length) → SameFrom cells a b i → byLength (a .length) (b .length) ≡ ordering cells a b
+unfolding ordering
+answers-by-length cells a b i e inv =
+    let sizes : byLength (a .length) (b .length) ≡ byLength (length (contentsIn cells a)) (length (contentsIn cells b)) =
+    ap₂ byLength (sym (size-of cells a)) (sym (size-of cells b)) in
+    sizes ∙ sym (order-ends (contentsIn cells a) (contentsIn cells b) i (rw (size-of cells a, size-of cells b) e)) ∙ ap orderingOf inv

@@ -1,0 +1,17 @@
+-- The element at an index, as the code finds it: from the cells alone.
+use mathlib.Core.Bool.{Bool, cond}
+use mathlib.Core.List.{List, []}
+use Prim.Native.Nat.{ℕ}
+use lib.Dec.{ltb}
+use Rattle.meaning.specs.Trees.{heightOf, element}
+use Rattle.records.specs.Records.{recordOf}
+use Rattle.records.specs.declared.Version.{Version}
+use Rattle.lookup.specs.declared.Got.{Got}
+use Rattle.lookup.specs.declared.Got.the-variants.{Element, Nothing}
+
+-- kinds and used numbers don't matter
+abbrev pub elementIn : (cells : List ℕ) → (bits h n index : ℕ) → ℕ
+elementIn cells bits h n index = element (record { kinds = []; used = []; cells = cells }) bits h n index
+
+unfoldable pub got : (cells : List ℕ) → Version → (index : ℕ) → Got
+got cells v index = cond (ltb index (v .length)) (Element (elementIn cells (v .bits) (heightOf (recordOf v)) (v .root) index)) Nothing

@@ -1,0 +1,36 @@
+// Numbers and records that functions hand on by value.
+ghost use mathlib.Core.Path.{_≡_};
+ghost use Rattle.meaning.specs.Limits.{defaultBits};
+ghost use Rattle.meaning.specs.Lent.{emptyRecord};
+ghost use Rattle.records.specs.Records.{recordOf};
+
+// The number of a node.
+pub struct NodeNo(pub u32);
+
+// The number of a version slot among all 64: another kind of number than a node's.
+pub struct SlotNo(pub u32);
+
+// A version record. Any numbers may stand in a lent one; the audit says which are legal.
+#[repr(C)]
+pub struct Version {
+    pub live: u32,
+    pub root: u32,
+    pub bits: u32,
+    pub length: u32,
+}
+
+impl Version {
+    pub const DEFAULT_BITS: u32 = 5;
+
+    // The record of an empty slot.
+    pub fn empty() -> Version
+        ensures { λ r. ⌜ recordOf r ≡ emptyRecord ⌝ }
+    {
+        Version {
+            live: 0,
+            root: 0,
+            bits: 0,
+            length: 0,
+        }
+    }
+}
