@@ -3,18 +3,22 @@ JUMPERLOFT_ORIGINAL ?= $(abspath ../shared/docs/src/src/vector/mod.rs)
 export JUMPERLOFT_ORIGINAL
 JUDGE = cargo run --quiet --release --offline -p judge --
 
-.PHONY: run test format oracle record
+.PHONY: run test format kinds oracle record
 
 run:
-	@echo 'jumperloft: there is no program yet, only its meaning (crates/meaning) and module 1 (crates/shape)' >&2
+	@echo 'jumperloft: there is no program yet, only its meaning (crates/meaning) and some of its modules' >&2
 	@exit 1
 
 # what fails before the last line makes it fail; the last line is rt ci's
-test: format oracle
+test: format oracle kinds
 	@rt ci
 
 format:
 	@rt fmt --check
+
+# a slot number for a node number does not compile
+kinds:
+	@sh tests/kinds_of_numbers.sh
 
 # the original as judge of the definitions' formulas and of the recorded answers
 oracle:

@@ -1,19 +1,18 @@
 -- What each return of the code answers, from what it found at place i of the two contents.
-use mathlib.Core.Path.{_≡_, refl, sym, ap, ap₂, _∙_}
-use mathlib.Core.List.{List, [], _∷_}
-use Prim.Native.Nat.{ℕ, zero, suc, _+_, _≤_, _<_, min}
+use mathlib.Core.Path.{_≡_, sym, ap, ap₂, _∙_}
+use mathlib.Core.List.{List, []}
+use Prim.Native.Nat.{ℕ, _+_, _≤_, _<_, min}
 use native.Mathlib.Numerals.{add-one}
 use native.Mathlib.Omega.{arith}
 use lib.ListN.{length, getD, drop}
 use Rattle.meaning.specs.Trees.{heightOf}
-use Rattle.meaning.specs.Effects.{before, after, order}
+use Rattle.meaning.specs.Effects.{order}
 use Rattle.records.specs.Records.{recordOf}
 use Rattle.records.specs.declared.Version.{Version}
 use Rattle.lookup.specs.Lookup.{elementIn}
 use Rattle.lookup.proofs.Found.{contents-at, contents-length}
 use Rattle.compare.specs.Compare.{orderingOf, byLength, contentsIn, ordering}
-use Rattle.compare.specs.declared.Ordering.{Ordering}
-use Rattle.compare.specs.declared.Ordering.the-variants.{Less, Equal, Greater}
+use Rattle.compare.specs.declared.Ordering.the-variants.{Less, Greater}
 use Rattle.compare.proofs.Turns.{order-less, order-greater, order-goes-on, order-ends}
 
 -- what a lookup found is the contents' element

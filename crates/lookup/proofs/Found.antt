@@ -1,13 +1,10 @@
 -- What the descent finds is the element; and the element is what the contents have there.
 use mathlib.Core.Path.{_≡_, refl, sym, ap, _∙_}
 use mathlib.Core.Logic.{_≢_}
-use mathlib.Core.Bool.{Bool, true, false, cond}
-use mathlib.Core.List.{List, [], _∷_}
+use mathlib.Core.List.{List}
 use Prim.Native.Nat.{ℕ, zero, suc, _+_, _-_, _*_, _≤_, _<_}
 use native.Mathlib.Nat.{lt-irrefl}
-use native.Mathlib.Numerals.{sub-one}
 use native.Mathlib.Omega.{arith}
-use lib.Dec.{ltb}
 use lib.ListN.{length, getD}
 use borrow.Author.Tests.{lt-ltb, le-ltb}
 use Rattle.meaning.specs.Limits.{nodeCells}
@@ -19,7 +16,6 @@ use Rattle.meaning.specs.Trees.{heightOf, element, contents}
 use Rattle.records.specs.Records.{recordOf}
 use Rattle.records.specs.declared.Version.{Version}
 use Rattle.lookup.specs.Lookup.{elementIn, got}
-use Rattle.lookup.specs.declared.Got.{Got}
 use Rattle.lookup.specs.declared.Got.the-variants.{Element, Nothing}
 
 -- ---- the descent

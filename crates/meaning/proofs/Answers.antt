@@ -1,21 +1,20 @@
 -- What an answer can be: the number of the first check that applies; a refusal changes nothing; no call needs more fresh nodes than it is charged, and what it needs fits a byte.
-use mathlib.Core.Path.{_≡_, refl, sym, ap, _∙_}
+use mathlib.Core.Path.{_≡_, refl, ap}
 use mathlib.Core.Logic.{_≢_}
-use mathlib.Core.Bool.{Bool, true, false, cond, not, _&&_}
+use mathlib.Core.Bool.{Bool, true, false, cond, _&&_}
 use mathlib.Core.List.{List, [], _∷_}
-use Prim.Native.Nat.{ℕ, zero, suc, _+_, _-_, _/_, _%_, _^_, _≤_, _<_}
+use Prim.Native.Nat.{ℕ, zero, suc, _+_, _-_, _/_, _%_, _^_, _≤_}
 use native.Mathlib.Nat.{le-trans, div-le-self}
 use native.Mathlib.Omega.{arith}
-use lib.Count.{leadingZeros}
 use lib.Dec.{eqb, leb}
 use lib.ListN.{length, getD, set}
 use Rattle.meaning.specs.Limits.{wordWidth, DONE, NO-NODES}
-use Rattle.meaning.specs.Counting.{howMany, Each}
+use Rattle.meaning.specs.Counting.{Each}
 use Rattle.meaning.specs.Shape.{degree, bitsToWrite, ifLeft, levels, height}
 use Rattle.meaning.specs.Table.{Version, Party, Table, freshParty, partyAt}
 use Rattle.meaning.specs.Frames.{Frame, Answer}
 use Rattle.meaning.specs.Operations.{Op, new, clone, release, len, get, set-at, push-back, drop-last, open-walk, next, next-back, close-walk, hand-over, free-nodes, first, last, compare, unknown, opOf, giver, taker}
-use Rattle.meaning.specs.Costs.{dropFresh, plain, newCost, pushCost, setCost, dropCost, cost}
+use Rattle.meaning.specs.Costs.{dropFresh, cost}
 use Rattle.meaning.specs.Checks.{Supply, Check, _if_, firstOf, checks, sourceOf}
 use Rattle.meaning.specs.Serve.{refused, respond, step, serve}
 use Rattle.meaning.proofs.Lists.{many-le}

@@ -1,20 +1,18 @@
 -- The same state with one thing wrong is not well-formed.
-use mathlib.Core.Path.{_≡_, refl, sym, ap, _∙_}
-use mathlib.Core.Logic.{_≢_, _⊎_, inl, inr}
-use mathlib.Core.List.{List, [], _∷_, _++_}
-use Prim.Native.Nat.{ℕ, zero, suc, _+_, _*_, _≤_, _<_}
+use mathlib.Core.Path.{_≡_, refl, ap}
+use mathlib.Core.Logic.{inl, inr}
+use mathlib.Core.List.{List}
+use Prim.Native.Nat.{ℕ, zero, _+_, _*_, _≤_, _<_}
 use native.Mathlib.Nat.{lt-irrefl}
 use native.Mathlib.Omega.{arith}
 use native.Mathlib.Decide.{decLt}
 use lib.Dec.{eqb, lit≤}
 use lib.IntN.{ℤ, pos}
-use lib.ListN.{length, getD, set, List·getD-eq-default}
+use lib.ListN.{getD, set, List·getD-eq-default}
 use Rattle.meaning.specs.Limits.{nodeCells, FREE, LEAF, walkLevels}
-use Rattle.meaning.specs.Counting.{bit, occurrences}
-use Rattle.meaning.specs.Lent.{Level, noLevel, WalkRecord, closedRecord, Lent, countOf, walkRecord, walkRecords}
+use Rattle.meaning.specs.Lent.{Level, noLevel, WalkRecord, Lent, walkRecord}
 use Rattle.meaning.specs.Links.{roots, cellLinks, Reached, byRoot, byCell}
-use Rattle.meaning.specs.Walks.{forwardStack}
-use Rattle.meaning.specs.WellFormed.{LegalWalk, Open, WellFormed}
+use Rattle.meaning.specs.WellFormed.{LegalWalk, WellFormed}
 use borrow.Author.Tests.{eqb-true}
 use Rattle.meaning.proofs.Lists.{many-each}
 use Rattle.meaning.proofs.Shared.{someKinds, someCounts, someCells, someOrder, someIndices, state, opened}

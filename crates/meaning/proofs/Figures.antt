@@ -1,11 +1,10 @@
 -- "Figures from both sides", by computation.
 use mathlib.Core.Path.{_≡_, refl}
-use mathlib.Core.List.{List, [], _∷_}
-use Prim.Native.Nat.{ℕ}
+use mathlib.Core.List.{[], _∷_}
 use lib.Count.{leadingZeros}
 use Rattle.meaning.specs.Counting.{sumTo, howMany, divides}
-use Rattle.meaning.specs.Shape.{degree, bitsToWrite, ifLeft, levels, height, rootMaxCapacity, isRootFull}
-use Rattle.meaning.specs.Costs.{dropFresh, plain, dropCost, Cost}
+use Rattle.meaning.specs.Shape.{degree, bitsToWrite, ifLeft, levels, height}
+use Rattle.meaning.specs.Costs.{dropFresh, dropCost}
 use Rattle.meaning.specs.Effects.{order, signed}
 
 -- those marked *

@@ -1,28 +1,26 @@
 -- A fresh state is well-formed, all its nodes are free, and it stands for the fresh table.
-use mathlib.Core.Path.{_≡_, refl, sym, ap, ap₂, _∙_}
-use mathlib.Core.Logic.{_⊎_, inl, inr}
-use mathlib.Core.Bool.{Bool, true, false, _&&_, and-true}
-use mathlib.Core.List.{List, [], _∷_, _++_}
+use mathlib.Core.Path.{_≡_, refl, sym, ap, _∙_}
+use mathlib.Core.Logic.{inl}
+use mathlib.Core.Bool.{and-true}
+use mathlib.Core.List.{List, []}
 use Prim.Native.Nat.{ℕ, zero, suc, _+_, _*_, _≤_, _<_}
 use native.Mathlib.Decide.{ℕ-discrete, decLt}
 use native.Mathlib.Nat.{lt-irrefl}
 use native.Mathlib.Omega.{arith}
 use lib.Dec.{ltb, eqb}
-use lib.IntN.{ℤ, pos}
-use lib.ListN.{length, getD, take, replicate, length-replicate}
+use lib.IntN.{pos}
+use lib.ListN.{length, replicate, length-replicate}
 use lib.Seq.{take-all}
 use borrow.Author.Tests.{lt-ltb, le-ltb, eq-eqb, ne-eqb}
-use Rattle.meaning.specs.Limits.{maxNodes, nodeCells, FREE, BRANCH, parties, partySlots, partyWalks, walkLevels, walkNumbers}
-use Rattle.meaning.specs.Counting.{sumTo, bit, howMany, occurrences, rows, Each}
-use Rattle.meaning.specs.Lent.{Nodes, WalkSlices, WalkRecord, closedRecord, emptyRecord, Lent, size, kindOf, cellOf, isFree, freeNodes, freeOrder, childCount, walkRecord, walkRecords, levelOf, noLevel}
-use Rattle.meaning.specs.Shape.{height}
-use Rattle.meaning.specs.Trees.{element, contents}
+use Rattle.meaning.specs.Limits.{maxNodes, nodeCells, FREE, parties, partySlots, partyWalks, walkLevels, walkNumbers}
+use Rattle.meaning.specs.Counting.{bit, occurrences, rows}
+use Rattle.meaning.specs.Lent.{Nodes, closedRecord, emptyRecord, size, kindOf, isFree, freeNodes, freeOrder, childCount, walkRecord, walkRecords}
 use Rattle.meaning.specs.Links.{liveRoots, roots, cellLinks, links, Reached, byRoot, byCell}
-use Rattle.meaning.specs.WellFormed.{SizesFit, Live, Open, LegalVersion, LegalWalk, WellFormed}
+use Rattle.meaning.specs.WellFormed.{LegalVersion, LegalWalk, WellFormed}
 use Rattle.meaning.specs.Fresh.{downFrom, freshState}
 use Rattle.meaning.specs.Table.{freshParty, freshTable}
-use Rattle.meaning.specs.Stands.{slotOf, leftBetween, walkOf, partyOf, tableOf}
-use Rattle.meaning.proofs.Lists.{sum-none, many-all, many-none, each-replicate, each-rows, rows-same, replicate-at}
+use Rattle.meaning.specs.Stands.{slotOf, walkOf, partyOf, tableOf}
+use Rattle.meaning.proofs.Lists.{sum-none, many-all, many-none, each-replicate, rows-same, replicate-at}
 
 -- nothing is reached from no roots
 pub reached-none : {s : Nodes} {n : ℕ} → Reached s [] n → ⊥

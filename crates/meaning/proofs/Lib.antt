@@ -4,6 +4,7 @@ pub mod Figures
 pub mod Sessions
 pub mod Lines
 pub mod Lists
+pub mod Sums
 pub mod FreshLaws
 pub mod Reaching
 pub mod Shared

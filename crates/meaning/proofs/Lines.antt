@@ -1,11 +1,10 @@
 -- The program on document 01's example, byte for byte, and on lines that are no frames.
 use mathlib.Core.Path.{_≡_, refl}
-use mathlib.Core.Bool.{cond}
 use mathlib.Core.List.{List, [] as nil, _∷_ as _then_}
-use Prim.Native.Nat.{ℕ, zero, suc, _-_, min}
-use Prim.Native.Char.{Char, code}
+use Prim.Native.Nat.{ℕ, _-_, min}
+use Prim.Native.Char.{code}
 use Prim.Native.String.{String, [], _∷_}
-use Rattle.meaning.specs.Checks.{Supply, nodes}
+use Rattle.meaning.specs.Checks.{nodes}
 use Rattle.meaning.specs.Program.{isDigit, digitValue, digitByte, allDigits, fromHex, toHex, readLine, linesOf, talk, write, program}
 use Rattle.meaning.proofs.Sessions.{session}
 

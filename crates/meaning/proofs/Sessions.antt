@@ -1,19 +1,19 @@
 -- Sessions on the plain table, by computation: the example of document 01, every refusal, walks, hand-over, compare, costs.
 use mathlib.Core.Path.{_≡_, refl}
 use mathlib.Core.List.{List, [], _∷_, _++_, map}
-use Prim.Native.Nat.{ℕ, zero, suc, _^_, _-_}
+use Prim.Native.Nat.{ℕ, _-_}
 use lib.Count.{leadingZeros}
 use lib.ListN.{replicate, length}
 use Rattle.meaning.specs.Limits.{maxLength}
 use Rattle.meaning.specs.Counting.{sumTo, howMany, divides}
 use Rattle.meaning.specs.Shape.{degree, bitsToWrite, ifLeft, levels, height}
-use Rattle.meaning.specs.Table.{Version, Slot, empty, live, Walk, closed, taking, Party, Table, freshParty, freshTable, partyAt, slotAt, walkAt, isLive, isOpen, emptyVersion, version, rest, putSlot, putWalk}
-use Rattle.meaning.specs.Frames.{Answer, fromBytes, toBytes, decode, encode}
+use Rattle.meaning.specs.Table.{Version, empty, live, closed, Table, freshParty, freshTable, partyAt, slotAt, walkAt, isLive, isOpen, emptyVersion, version, rest, putSlot, putWalk}
+use Rattle.meaning.specs.Frames.{fromBytes, toBytes, decode, encode}
 use Rattle.meaning.specs.Operations.{operations, opOf, anyone, hostAlone, uses, ownerOr, giver, taker}
 use Rattle.meaning.specs.Costs.{dropFresh, plain, newCost, pushCost, setCost, dropCost, cost}
-use Rattle.meaning.specs.Checks.{Supply, nodes, isShort, noFault, faults, anyField, isEmpty, nothingThere, isFull, sourceOf, leftOf, _if_, checks, firstOf}
+use Rattle.meaning.specs.Checks.{nodes, isShort, noFault, faults, anyField, isEmpty, nothingThere, isFull, sourceOf, leftOf, _if_, checks, firstOf}
 use Rattle.meaning.specs.Effects.{firstItem, lastItem, withoutFirst, withoutLast, order, signed, fill, freeOf, effect}
-use Rattle.meaning.specs.Serve.{refused, respond, step, serve, Call, Reply, run}
+use Rattle.meaning.specs.Serve.{refused, respond, step, serve, Reply, run}
 
 -- ---- sessions, as the program writes them
 

@@ -1,12 +1,12 @@
 -- What the shape of a version says in document 01's own words.
-use mathlib.Core.Path.{_≡_, refl, sym, ap, _∙_}
-use Prim.Native.Nat.{ℕ, zero, suc, _+_, _*_, _^_, _≤_, _<_}
+use mathlib.Core.Path.{_≡_, refl}
+use Prim.Native.Nat.{ℕ, zero, suc, _*_, _^_, _≤_, _<_}
 use native.Mathlib.Nat.{lt-irrefl, lt-of-not-le, mul-le-mul-right}
 use native.Mathlib.Omega.{arith}
-use Rattle.meaning.specs.Limits.{LEAF, BRANCH, lengthBits, maxLength, wordWidth}
+use Rattle.meaning.specs.Limits.{LEAF, BRANCH, maxLength}
 use Rattle.meaning.specs.Lent.{Nodes, kindOf, usedOf, VersionRecord}
 use Rattle.meaning.specs.Shape.{degree, height}
-use Rattle.meaning.specs.Trees.{Leaf, Branch, Shaped, heightOf, HasShape}
+use Rattle.meaning.specs.Trees.{Leaf, Shaped, heightOf, HasShape}
 use Rattle.meaning.specs.WellFormed.{Live}
 use Rattle.meaning.proofs.Heights.{height-fits}
 

@@ -1,29 +1,29 @@
 -- No promise is empty: a state of two parties' versions that share a leaf, and an open walk, is well-formed; and what it stands for.
 -- Party 1's slot 0 has [7, 8, 9] and party 2's slot 3 has [7, 8, 9, 10], made from it by a push, both of bits 1; party 2's walk 1 has taken one value from each end of the latter.
-use mathlib.Core.Path.{_≡_, refl, sym, ap, _∙_}
-use mathlib.Core.Logic.{_≢_, _⊎_, inl, inr}
-use mathlib.Core.Bool.{Bool, true, false, cond, not, _&&_, _||_}
-use mathlib.Core.List.{List, [], _∷_, _++_, map}
-use Prim.Native.Nat.{ℕ, zero, suc, _+_, _-_, _*_, _/_, _^_, _≤_, _<_, min}
+use mathlib.Core.Path.{_≡_, refl}
+use mathlib.Core.Logic.{_≢_, inl, inr}
+use mathlib.Core.Bool.{Bool, true, not, _||_}
+use mathlib.Core.List.{List, [], _∷_, _++_}
+use Prim.Native.Nat.{ℕ, zero, suc, _+_, _-_, _*_, _≤_, _<_, min}
 use native.Mathlib.Decide.{decLt}
 use native.Mathlib.Nat.{lt-irrefl}
 use native.Mathlib.Omega.{arith}
 use lib.Count.{leadingZeros}
-use lib.Dec.{ltb, leb, eqb, lit≤, lit<}
+use lib.Dec.{ltb, eqb, lit≤}
 use lib.IntN.{ℤ, pos}
-use lib.ListN.{length, getD, replicate, set, List·getD-eq-default}
-use borrow.Author.Tests.{eqb-true, ne-eqb, le-ltb, lt-ltb}
-use Rattle.meaning.specs.Limits.{nodeCells, FREE, LEAF, BRANCH, parties, walkLevels}
+use lib.ListN.{length, replicate, List·getD-eq-default}
+use borrow.Author.Tests.{eqb-true, ne-eqb, le-ltb}
+use Rattle.meaning.specs.Limits.{nodeCells, FREE, LEAF, BRANCH, walkLevels}
 use Rattle.meaning.specs.Counting.{sumTo, bit, howMany, occurrences, rows, Each}
-use Rattle.meaning.specs.Lent.{Nodes, VersionRecord, emptyRecord, Level, noLevel, WalkRecord, Lent, size, kindOf, usedOf, cellOf, countOf, isFree, freeNodes, freeOrder, childCount, walkRecord, walkRecords, levelOf}
+use Rattle.meaning.specs.Lent.{VersionRecord, emptyRecord, Lent, kindOf, usedOf, cellOf, countOf, isFree, freeNodes, freeOrder, childCount, walkRecord, walkRecords}
 use Rattle.meaning.specs.Shape.{degree, bitsToWrite, ifLeft, levels, height, bucket}
-use Rattle.meaning.specs.Trees.{Leaf, Branch, Shaped, element, contents}
+use Rattle.meaning.specs.Trees.{Shaped, element, contents}
 use Rattle.meaning.specs.Walks.{way, stack, padded, forwardStack, backwardStack}
 use Rattle.meaning.specs.Links.{liveRoots, roots, cellLinks, links, Reached, byRoot, byCell}
-use Rattle.meaning.specs.WellFormed.{SizesFit, Live, LegalVersion, Open, LegalWalk, WellFormed}
-use Rattle.meaning.specs.Table.{Slot, empty, live, Walk, closed, taking, Table, freshParty}
+use Rattle.meaning.specs.WellFormed.{Live, LegalVersion, LegalWalk, WellFormed}
+use Rattle.meaning.specs.Table.{empty, live, closed, taking, freshParty}
 use Rattle.meaning.specs.Stands.{slotOf, leftBetween, walkOf, partyOf, tableOf}
-use Rattle.meaning.proofs.Lists.{many-each, occurs-never, each-append, each-replicate}
+use Rattle.meaning.proofs.Lists.{many-each, each-append, each-replicate}
 use Rattle.meaning.proofs.Reaching.{reached-used}
 
 -- ---- the state, from the parts that will be damaged one at a time

@@ -1,5 +1,5 @@
 -- "Requests come as a batch": bytes in, bytes out, one report.
-use mathlib.Core.Bool.{Bool, true, false, not}
+use mathlib.Core.Bool.{Bool, not}
 use mathlib.Core.List.{List, [], _∷_, _++_}
 use Prim.Native.Nat.{ℕ, zero, suc, _*_, _/_}
 use lib.Dec.{ltb}
@@ -7,7 +7,7 @@ use lib.ListN.{length, take, drop}
 use Rattle.meaning.specs.Limits.{frameSize, answerSize, DONE, ILL-FORMED, NO-ROOM, RAGGED}
 use Rattle.meaning.specs.Counting.{divides}
 use Rattle.meaning.specs.Table.{Table}
-use Rattle.meaning.specs.Frames.{Frame, Answer, decode, encode}
+use Rattle.meaning.specs.Frames.{decode, encode}
 use Rattle.meaning.specs.Checks.{Supply, Check, _if_, firstOf}
 use Rattle.meaning.specs.Serve.{Call, Reply, run}
 

@@ -1,7 +1,7 @@
 -- "Numbers given back": the frame checks 1 to 10, in that order; the first that applies is answered.
 use mathlib.Core.Bool.{Bool, true, false, cond, not, _&&_, _||_}
 use mathlib.Core.List.{List, [], _∷_}
-use Prim.Native.Nat.{ℕ, zero, suc}
+use Prim.Native.Nat.{ℕ}
 use lib.Dec.{leb, ltb, eqb}
 use lib.ListN.{length}
 use Rattle.meaning.specs.Limits.{lastParty, lastSlot, lastWalk, lastOperation, host, maxBits, maxLength, DONE, NO-PARTY, NO-OPERATION, HOST-ONLY, OUT-OF-RANGE, EMPTY-SOURCE, LIVE-TARGET, BAD-BITS, NOTHING-THERE, FULL, NO-NODES}

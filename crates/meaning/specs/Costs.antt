@@ -1,7 +1,6 @@
 -- "What a call costs in nodes": fresh, and the charge.
 use mathlib.Core.Bool.{Bool, cond, not, _&&_}
-use mathlib.Core.List.{List}
-use Prim.Native.Nat.{ℕ, suc, _+_, _-_, _^_}
+use Prim.Native.Nat.{ℕ, _+_, _-_, _^_}
 use lib.Dec.{leb, eqb}
 use lib.ListN.{length}
 use Rattle.meaning.specs.Counting.{howMany, divides}

@@ -1,11 +1,11 @@
 -- What a call does that no check refuses: the columns "does" and "answers" of the list of operations.
-use mathlib.Core.Bool.{Bool, true, false, cond}
+use mathlib.Core.Bool.{cond}
 use mathlib.Core.List.{List, [], _∷_, _++_}
-use Prim.Native.Nat.{ℕ, zero, suc, _-_, _^_}
+use Prim.Native.Nat.{ℕ, _-_, _^_}
 use lib.Dec.{ltb}
 use lib.ListN.{length, getD, take, drop, set}
 use Rattle.meaning.specs.Limits.{wordWidth}
-use Rattle.meaning.specs.Table.{Version, Slot, empty, live, Walk, closed, taking, Party, slotAt, version, putSlot, putWalk}
+use Rattle.meaning.specs.Table.{Version, empty, live, closed, taking, Party, slotAt, version, putSlot, putWalk}
 use Rattle.meaning.specs.Frames.{Frame}
 use Rattle.meaning.specs.Operations.{Op, new, clone, release, len, get, set-at, push-back, drop-last, open-walk, next, next-back, close-walk, hand-over, free-nodes, first, last, compare, unknown}
 use Rattle.meaning.specs.Checks.{Supply, unlimited, nodes}

@@ -1,7 +1,7 @@
 -- "Forming a fresh state makes all slots empty, all walks closed, all nodes free."
 use mathlib.Core.List.{List, [], _∷_}
 use Prim.Native.Nat.{ℕ, zero, suc, _*_}
-use lib.IntN.{ℤ, pos}
+use lib.IntN.{pos}
 use lib.ListN.{replicate}
 use Rattle.meaning.specs.Limits.{FREE, parties, partySlots, partyWalks, walkLevels, walkNumbers}
 use Rattle.meaning.specs.Lent.{Lent, emptyRecord}

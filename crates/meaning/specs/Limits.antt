@@ -1,5 +1,5 @@
 -- The limits, the sizes and the numbers of document 01, each by one name.
-use Prim.Native.Nat.{ℕ, suc, _*_, _^_}
+use Prim.Native.Nat.{ℕ, suc, _^_}
 
 -- ---- "The state the host lends"
 

@@ -1,7 +1,7 @@
 -- Who links a node, and which nodes are reached.
-use mathlib.Core.Bool.{Bool, true, false, cond}
+use mathlib.Core.Bool.{cond}
 use mathlib.Core.List.{List, [], _∷_, _++_, map}
-use Prim.Native.Nat.{ℕ, zero, suc, _+_, _≤_}
+use Prim.Native.Nat.{ℕ, _+_, _≤_}
 use lib.Dec.{eqb}
 use Rattle.meaning.specs.Counting.{sumTo, howMany, occurrences}
 use Rattle.meaning.specs.Lent.{Nodes, cellOf, childCount, VersionRecord, WalkRecord, Lent, size, walkRecords}

@@ -1,7 +1,7 @@
 -- The plain table that a lent state stands for.
-use mathlib.Core.Bool.{Bool, cond}
+use mathlib.Core.Bool.{cond}
 use mathlib.Core.List.{List}
-use Prim.Native.Nat.{ℕ, _+_, _-_}
+use Prim.Native.Nat.{ℕ, _-_}
 use lib.Dec.{eqb}
 use lib.ListN.{take, drop}
 use Rattle.meaning.specs.Limits.{parties, partySlots, partyWalks}

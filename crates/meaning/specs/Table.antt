@@ -1,6 +1,6 @@
 -- "The plain table": for each live slot its bits and list of values, for each open walk the values not yet taken.
 use mathlib.Core.Bool.{Bool, true, false}
-use mathlib.Core.List.{List, [], _∷_}
+use mathlib.Core.List.{List, []}
 use Prim.Native.Nat.{ℕ}
 use lib.ListN.{getD, set, replicate}
 use Rattle.meaning.specs.Limits.{parties, partySlots, partyWalks, defaultBits}

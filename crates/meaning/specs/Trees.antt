@@ -1,6 +1,6 @@
 -- "Shape of a version", in nodes: which nodes are a version of a given length, and where its elements stand.
 use mathlib.Core.Path.{_≡_}
-use mathlib.Core.List.{List, [], _∷_, _++_}
+use mathlib.Core.List.{List}
 use Prim.Native.Nat.{ℕ, zero, suc, _+_, _-_, _*_, _^_, _≤_, _<_, min}
 use lib.ListN.{length}
 use Rattle.meaning.specs.Limits.{LEAF, BRANCH}

@@ -1,9 +1,9 @@
 -- "The record of an open walk agrees with its taken numbers from each end": the stacks of levels, as a function of the version and the numbers.
-use mathlib.Core.Bool.{Bool, true, false, cond, _||_}
+use mathlib.Core.Bool.{cond, _||_}
 use mathlib.Core.List.{List, [], _∷_, _++_}
-use Prim.Native.Nat.{ℕ, zero, suc, _+_, _-_}
+use Prim.Native.Nat.{ℕ, zero, suc, _-_}
 use lib.Dec.{eqb}
-use lib.IntN.{ℤ, pos}
+use lib.IntN.{pos}
 use lib.ListN.{length, replicate}
 use Rattle.meaning.specs.Limits.{walkLevels}
 use Rattle.meaning.specs.Lent.{Nodes, cellOf, VersionRecord, Level, noLevel, WalkRecord}

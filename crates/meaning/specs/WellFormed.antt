@@ -1,7 +1,6 @@
 -- "The state is well-formed if": the paragraph of document 01, clause by clause.
 use mathlib.Core.Path.{_≡_}
 use mathlib.Core.Logic.{_≢_, _⊎_, _↔_}
-use mathlib.Core.List.{List}
 use Prim.Native.Nat.{ℕ, _+_, _*_, _≤_, _<_}
 use lib.ListN.{length}
 use Rattle.meaning.specs.Limits.{maxNodes, nodeCells, FREE, parties, partySlots, partyWalks, maxBits, maxLength, walkLevels, walkNumbers}
