@@ -1,5 +1,4 @@
 -- What is proved of the store.
-pub mod Cells
 pub mod Links
 pub mod Facts
 pub mod Reaching

@@ -17,9 +17,9 @@ use Rattle.meaning.specs.Links.{cellLinks}
 use Rattle.meaning.proofs.Lists.{sum-same, many-none, many-le}
 use Rattle.cells.specs.Cells.{cellsOf}
 use Rattle.store.specs.Store.{childrenOf, writeNode}
-use Rattle.ledger.specs.Frame.{Same}
+use Rattle.store.specs.Frame.{Same}
 use Rattle.meaning.proofs.Sums.{sum-one, many-one, occurs-take}
-use Rattle.ledger.proofs.Cells.{cells-length, cells-at, put-inside, put-outside}
+use Rattle.cells.proofs.CellLaws.{cells-length, cells-at, put-inside, put-other}
 
 -- ---- one node
 
@@ -60,7 +60,7 @@ pub links-children : (s : Nodes) (m n : ℕ) → childCount s m ≤ nodeCells �
     → cellLinks s m n ≡ occurrences n (childrenOf s m)
 unfolding cellLinks childrenOf howMany
 links-children s m n l fits =
-    sum-same (childCount s m) _ _ (λ i k. ap (λ (x : ℕ). bit (eqb x n)) (sym (cells-at (s .cells) m fits i (omega arith))))
+    sum-same (childCount s m) _ _ (λ i k. ap (λ (x : ℕ). bit (eqb x n)) (sym (cells-at (s .cells) m i (omega arith))))
     ∙ sym (occurs-take n (childCount s m) (cellsOf (s .cells) m) (omega (arith, cells-length (s .cells) m fits)))
 
 -- a node that reads the same links the same
@@ -85,12 +85,12 @@ module _ (s : Nodes) (m k u : ℕ) (a : List ℕ) (whole : length a ≡ nodeCell
   write-same n f = record {
     kind = getD-set-other (s .kinds) m n k FREE f;
     used = getD-set-other (s .used) m n u 0 f;
-    cells = λ i l. put-outside (s .cells) m fits a whole n i f l;
+    cells = λ i l. put-other (s .cells) m a fits whole n i f l;
   }
 
   pub write-cell : (i : ℕ) → i < nodeCells → cellOf (writeNode s m k u a) m i ≡ getD a i 0
   unfolding writeNode
-  write-cell i l = put-inside (s .cells) m fits a whole i l
+  write-cell i l = put-inside (s .cells) m a fits whole i l
 
   -- a branch links its first u cells
   pub write-links : (n : ℕ) → m < length (s .kinds) → m < length (s .used) → k ≡ BRANCH → u ≤ nodeCells

@@ -19,9 +19,10 @@ use Rattle.meaning.proofs.Lists.{occurs-append}
 use Rattle.store.specs.Store.{Store, nodeCount, top, writeNode, make, raised}
 use Rattle.ledger.specs.Kept.{Kept, countIn, linksIn}
 use Rattle.store.specs.Ready.{Sized}
-use Rattle.ledger.specs.Frame.{Same, Filled}
+use Rattle.store.specs.Frame.{Same}
+use Rattle.ledger.specs.Frame.{Filled}
 use Rattle.meaning.proofs.Sums.{term-le, bit-same, bit-other, occurs-none, occurs-cons}
-use Rattle.ledger.proofs.Cells.{put-length}
+use Rattle.cells.proofs.CellLaws.{put-length}
 use Rattle.ledger.proofs.Links.{other-linkless, free-linkless, links-same, sum-but, write-same, write-cell, write-links}
 use Rattle.ledger.proofs.Facts.{used-inside, used-bit, same-bit, node-fits, children-le, free-unlinked, order-once}
 use Rattle.ledger.proofs.Taking.{order-top, top-inside, top-free, top-unrooted, used-not-top}
@@ -47,7 +48,7 @@ module _ {s : Store} (kind : ℕ) {u : ℕ} {a old : List ℕ} (k : Kept s old) 
   unfolding make writeNode
   make-sized = record {
     used = length-set (s .nodes .used) (top s) u ∙ k .sized .used ∙ sym make-size;
-    cells = put-length (s .nodes .cells) (top s) (node-fits k (top s) inside) a (filled .whole) ∙ k .sized .cells ∙ ap (λ (n : ℕ). nodeCells * n) (sym make-size);
+    cells = put-length (s .nodes .cells) (top s) a (node-fits k (top s) inside) (filled .whole) ∙ k .sized .cells ∙ ap (λ (n : ℕ). nodeCells * n) (sym make-size);
     counts = length-set (s .counts) (top s) 1 ∙ k .sized .counts ∙ sym make-size;
     order = k .sized .order ∙ sym make-size;
   }

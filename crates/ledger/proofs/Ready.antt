@@ -17,9 +17,9 @@ use Rattle.store.specs.Store.{Store, nodeCount, childrenOf}
 use Rattle.store.specs.Ready.{FreeOnTop, Room, AllBelow}
 use Rattle.sweep.specs.Ready.{live, Whole, Releasable}
 use Rattle.ledger.specs.Kept.{Kept}
-use Rattle.ledger.proofs.Cells.{cells-at}
+use Rattle.cells.proofs.CellLaws.{cells-at}
 use Rattle.ledger.proofs.Links.{branch-count, other-count}
-use Rattle.ledger.proofs.Facts.{used-inside, node-fits, children-le, order-past}
+use Rattle.ledger.proofs.Facts.{used-inside, children-le, order-past}
 use Rattle.ledger.proofs.Bounds.{count-bound, child-inside, linked-room}
 use Rattle.ledger.proofs.Taking.{top-inside}
 
@@ -62,7 +62,7 @@ module _ {s : Store} {roots : List ℕ} (k : Kept s roots) where
       pick (yes e) =
           let u : i < usedOf (s .nodes) n = omega (arith, short, branch-count (s .nodes) n e) in
           let inside : n < nodeCount s = used-inside (s .nodes) n (λ d. lt-irrefl zero (omega arith)) in
-          let at : getD cs i 0 ≡ cellOf (s .nodes) n i = cells-at (s .nodes .cells) n (node-fits k n inside) i (omega (arith, short, children-le k n)) in
+          let at : getD cs i 0 ≡ cellOf (s .nodes) n i = cells-at (s .nodes .cells) n i (omega (arith, short, children-le k n)) in
           rw (getD-take (childCount (s .nodes) n) cs i 0 (omega (arith, short)), at) (child-inside k n i e u)
       pick (no f) = absurd (lt-irrefl zero (omega (arith, short, other-count (s .nodes) n f)))
 

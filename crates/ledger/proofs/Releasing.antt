@@ -16,7 +16,8 @@ use Rattle.store.specs.Store.{Store, childrenOf}
 use Rattle.sweep.specs.Sweep.{lowerFrom, lower, lowers, vacate, scan, sweep, release}
 use Rattle.ledger.specs.Kept.{Keeping, Kept, countIn}
 use Rattle.ledger.specs.Pending.{waiting}
-use Rattle.ledger.specs.Frame.{Same, Remains}
+use Rattle.store.specs.Frame.{Same}
+use Rattle.ledger.specs.Frame.{Remains}
 use Rattle.ledger.proofs.Reaching.{used-reached, reached-used}
 use Rattle.ledger.proofs.Staying.{same-refl, same-trans, reached-remains, reached-before, reached-same}
 use Rattle.ledger.proofs.Lowering.{lower-next}

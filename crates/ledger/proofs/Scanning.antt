@@ -19,7 +19,7 @@ use Rattle.sweep.specs.Sweep.{vacate, scan}
 use Rattle.ledger.specs.Kept.{Keeping, countIn, linksIn}
 use Rattle.store.specs.Ready.{Sized}
 use Rattle.ledger.specs.Pending.{waiting, allFallen}
-use Rattle.ledger.specs.Frame.{Same}
+use Rattle.store.specs.Frame.{Same}
 use Rattle.meaning.proofs.Sums.{term-le, bit-same, bit-other, occurs-cons, occurs-first}
 use Rattle.ledger.proofs.Links.{free-linkless, links-same, links-children, sum-but}
 use Rattle.ledger.proofs.Facts.{used-inside, used-bit, free-bit, same-bit, node-fits, children-le, linking-used, counted-links, counted-used}

@@ -11,7 +11,8 @@ use Rattle.meaning.specs.Lent.{Nodes, kindOf, usedOf, cellOf}
 use Rattle.meaning.specs.Links.{cellLinks, Reached, byRoot, byCell}
 use Rattle.store.specs.Store.{Store, top, make, raised}
 use Rattle.ledger.specs.Kept.{Kept}
-use Rattle.ledger.specs.Frame.{Same, Remains, Filled}
+use Rattle.store.specs.Frame.{Same}
+use Rattle.ledger.specs.Frame.{Remains, Filled}
 use Rattle.ledger.proofs.Links.{links-same}
 use Rattle.ledger.proofs.Facts.{children-le}
 use Rattle.ledger.proofs.Reaching.{used-reached, reached-used}

@@ -5,20 +5,15 @@ use mathlib.Core.List.{List}
 use Prim.Native.Nat.{ℕ, _≤_, _<_}
 use lib.ListN.{length, getD}
 use Rattle.meaning.specs.Limits.{nodeCells, FREE}
-use Rattle.meaning.specs.Lent.{Nodes, kindOf, usedOf, cellOf}
+use Rattle.meaning.specs.Lent.{kindOf}
 use Rattle.store.specs.Store.{Store, nodeCount}
+use Rattle.store.specs.Frame.{Same}
 
 -- 32 cells for a node, of which the first u are in use and the others 0
 pub record Filled (u : ℕ) (a : List ℕ) : Type 0 where
   pub fits : u ≤ nodeCells
   pub whole : length a ≡ nodeCells
   pub spare : (i : ℕ) → u ≤ i → i < nodeCells → getD a i 0 ≡ 0
-
--- node n reads the same in both
-pub record Same (s t : Nodes) (n : ℕ) : Type 0 where
-  pub kind : kindOf t n ≡ kindOf s n
-  pub used : usedOf t n ≡ usedOf s n
-  pub cells : (i : ℕ) → i < nodeCells → cellOf t n i ≡ cellOf s n i
 
 -- t has the nodes of s, some of them given back
 pub record Remains (s t : Store) : Type 0 where

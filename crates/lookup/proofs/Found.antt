@@ -1,18 +1,17 @@
 -- What the descent finds is the element; and the element is what the contents have there.
-use mathlib.Core.Path.{_≡_, refl, sym, ap, _∙_}
+use mathlib.Core.Path.{_≡_, refl, sym, _∙_}
 use mathlib.Core.Logic.{_≢_}
 use mathlib.Core.List.{List}
 use Prim.Native.Nat.{ℕ, zero, suc, _+_, _-_, _*_, _≤_, _<_}
-use native.Mathlib.Nat.{lt-irrefl}
 use native.Mathlib.Omega.{arith}
 use lib.ListN.{length, getD}
 use borrow.Author.Tests.{lt-ltb, le-ltb}
 use Rattle.meaning.specs.Limits.{nodeCells}
 use Rattle.meaning.specs.Lent.{Nodes}
-use Rattle.meaning.specs.Counting.{rows}
 use Rattle.meaning.specs.Lent.{VersionRecord}
 use Rattle.meaning.specs.Shape.{bucket}
 use Rattle.meaning.specs.Trees.{heightOf, element, contents}
+use Rattle.meaning.proofs.Rows.{rows-length, rows-at}
 use Rattle.records.specs.Records.{recordOf}
 use Rattle.records.specs.declared.Version.{Version}
 use Rattle.lookup.specs.Lookup.{elementIn, got}
@@ -52,17 +51,6 @@ pub element-in : (s : Nodes) (bits h n i : ℕ) → elementIn (s .cells) bits h 
 unfolding element
 element-in s bits zero n i = refl
 element-in s bits (suc h) n i = element-in s bits h _ i
-
-pub rows-length : {A : Type 0} (n : ℕ) (f : ℕ → A) → length (rows n f) ≡ n
-unfolding rows
-rows-length zero f = refl
-rows-length (suc n) f = ap suc (rows-length n (λ i. f (suc i)))
-
-pub rows-at : {A : Type 0} (n i : ℕ) (f : ℕ → A) (d : A) → i < n → getD (rows n f) i d ≡ f i
-unfolding rows
-rows-at zero i f d l = absurd (lt-irrefl zero (omega arith))
-rows-at (suc n) zero f d l = refl
-rows-at (suc n) (suc i) f d l = rows-at n i (λ k. f (suc k)) d (omega arith)
 
 pub contents-length : (s : Nodes) (v : VersionRecord) → length (contents s v) ≡ v .length
 unfolding contents

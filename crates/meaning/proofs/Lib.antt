@@ -5,6 +5,7 @@ pub mod Sessions
 pub mod Lines
 pub mod Lists
 pub mod Sums
+pub mod Rows
 pub mod FreshLaws
 pub mod Reaching
 pub mod Shared

@@ -1,3 +1,4 @@
 pub mod Store
 pub mod Ready
 pub mod Answers
+pub mod Frame

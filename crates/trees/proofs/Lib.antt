@@ -1,0 +1,19 @@
+-- What is proved of path copying, leaves first.
+pub mod Digits
+pub mod Undivided
+pub mod Numbers
+pub mod Framing
+pub mod Walking
+pub mod Making
+pub mod Stocking
+pub mod Sources
+pub mod Sharing
+pub mod Steps
+pub mod Climbs
+pub mod Climbing
+pub mod Putting
+pub mod Growing
+pub mod Dropping
+pub mod Editing
+pub mod Shortening
+pub mod Sample

@@ -1,0 +1,1 @@
+// Nothing runs here: the laws of shapes, contents and path copying stand in proofs/.

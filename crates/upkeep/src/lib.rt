@@ -1,0 +1,1 @@
+// Nothing runs here: that every call keeps the invariant of the store is proved in proofs/.
