@@ -6,8 +6,8 @@ use native.Mathlib.Numerals.{add-one}
 use native.Mathlib.Omega.{arith}
 use native.Mathlib.Nat.{lt-of-not-le}
 use native.Mathlib.Decide.{ℕ-discrete, decLt}
-use lib.ListN.{length, take, getD, length-set}
-use lib.Seq.{slice, slice-cons, slice-empty, length-take-le, getD-take, getD-set-same, getD-set-other, set-out}
+use lib.ListN.{length, take, getD, length-set, length-take, drop-of-length-le}
+use lib.Seq.{slice, slice-cons, length-take-le, getD-take, getD-set-same, getD-set-other, set-out}
 use Rattle.meaning.specs.Limits.{wordWidth}
 use Rattle.store.specs.Store.{raise, raises}
 use Rattle.store.specs.Ready.{Room, AllBelow}
@@ -70,9 +70,12 @@ pub raises-turn : (cs cs′ cs₀ a : List ℕ) (i t : ℕ) → i < t → t ≤ 
 unfolding raises
 raises-turn cs cs′ cs₀ a i t h l e r = rw (e, add-one i) (rw (slice-cons i t a 0) at r)
 
-pub raises-none : (cs a : List ℕ) (i t : ℕ) → t ≤ i → i ≤ t → raises cs (slice i t a) ≡ cs
+slice-past : (i t : ℕ) (a : List ℕ) → t ≤ i → slice i t a ≡ []
+slice-past i t a h = drop-of-length-le (take t a) {i = i} (simp length-take (omega arith))
+
+pub raises-none : (cs a : List ℕ) (i t : ℕ) → t ≤ i → raises cs (slice i t a) ≡ cs
 unfolding raises
-raises-none cs a i t h l = let e : i ≡ t = omega arith in rw (e, slice-empty t a)
+raises-none cs a i t h = rw (slice-past i t a h)
 
 -- two ranges one after the other
 pub others-raised : (cs cs₁ cs₂ a : List ℕ) (len but : ℕ) → cs₁ ≡ raises cs (slice 0 but a) → cs₂ ≡ raises cs₁ (slice (but + 1) len a)

@@ -125,9 +125,9 @@ pub fn raise(counts: &mut [u32], n: NodeNo)
     counts[i] += 1;
 }
 
-// The nodes that a holds from `from` up to `to` get one link more each.
+// The nodes that a holds from `from` up to `to` get one link more each: none where `from` is beyond.
 pub fn raise_range(counts: &mut [u32], a: [u32; 32], from: usize, to: usize)
-    requires { ⌜ (from ≤ to) × (to ≤ nodeCells) ⌝ }
+    requires { ⌜ to ≤ nodeCells ⌝ }
     requires { ⌜ AllBelow (length (now counts)) (take to a) ⌝ }
     requires { ⌜ Room (to - from) (now counts) ⌝ }
     ensures { λ _. ⌜ now (counts .exit) ≡ raises (now (counts .entry)) (slice from to a) ⌝ }
@@ -139,9 +139,9 @@ pub fn raise_range(counts: &mut [u32], a: [u32; 32], from: usize, to: usize)
     }
 }
 
-// The first `len` nodes of a get one link more each, but the one at `but`.
+// The first `len` nodes of a get one link more each, but the one at `but`, which may be the next.
 pub fn raise_others(counts: &mut [u32], a: [u32; 32], len: usize, but: usize)
-    requires { ⌜ (but < len) × (len ≤ nodeCells) ⌝ }
+    requires { ⌜ (but ≤ len) × (len ≤ nodeCells) ⌝ }
     requires { ⌜ AllBelow (length (now counts)) (take len a) ⌝ }
     requires { ⌜ Room nodeCells (now counts) ⌝ }
     ensures { λ _. ⌜ now (counts .exit) ≡ raises (now (counts .entry)) (others a len but) ⌝ }

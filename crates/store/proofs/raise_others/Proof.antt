@@ -12,7 +12,7 @@ add-next c = search needs
 raise-range-requires : tie.Need-raise-range-requires
 raise-range-requires c κs =
     let s = c .before .before in (
-      (search needs, search needs),
+      search needs,
       (below-fewer _ (s .args .a) (s .args .but) (s .args .len) (search needs) (search needs) (s .pre .1 .0), room-less _ nodeCells _ (search needs) (s .pre .1 .1)),
     )
 
@@ -20,7 +20,7 @@ raise-range-requires-2 : tie.Need-raise-range-requires-2
 raise-range-requires-2 c κs =
     let s = c .before .before .before .before .before .before in
     let r = c .before .before .before .raise-range in (
-      (search needs, search needs),
+      search needs,
       (
         rw (r .kept .0) (s .pre .1 .0),
         rw (r .ensures) (room-raises _ _ _ (room-less _ nodeCells _ (rw (length-slice 0 (s .args .but) (s .args .a) (search needs)) (omega arith)) (s .pre .1 .1))),

@@ -1,5 +1,5 @@
 use mathlib.Core.Path.{_≡_, sym, _∙_}
-use Prim.Native.Nat.{_-_, _≤_}
+use Prim.Native.Nat.{_-_}
 use lib.ListN.{length}
 use lib.Seq.{slice}
 use Rattle.store.specs.Store.{raises}
@@ -11,9 +11,7 @@ use Rattle.store.proofs.raise_range.Tie as tie
 
 abbrev Inv-loop : tie.InvT-loop
 Inv-loop counts₀ from to a i₀ counts i =
-    (from ≤ i)
-    × (i ≤ to)
-    × (length counts ≡ length counts₀)
+    (length counts ≡ length counts₀)
     × Room (to - i) counts
     × (raises counts (slice i to a) ≡ raises counts₀ (slice from to a))
 
@@ -33,8 +31,8 @@ raise-requires : tie.Need-raise-requires Inv-loop μ-loop
 raise-requires c κs =
     let a = c .before .before .before .before .args in
     let p = c .before .before .loop in (
-      rw (p .inv .2) (below-at _ (a .t2) (a .to) _ (c .before .before .before .before .pre .1 .0) (search needs) (search needs)),
-      room-less 1 _ _ (search needs) (p .inv .3),
+      rw (p .inv .0) (below-at _ (a .t2) (a .to) _ (c .before .before .before .before .pre .1 .0) (search needs) (search needs)),
+      room-less 1 _ _ (search needs) (p .inv .1),
     )
 
 add-i : tie.Need-add-i Inv-loop μ-loop
@@ -48,11 +46,9 @@ loop-again c =
     let a = c .before .before .before .before .before .before .before .args in
     let p = c .before .before .before .before .before .loop in
     let r = c .before .before .raise in (
-      search needs,
-      search needs,
-      r .kept .0 ∙ p .inv .2,
-      rw (r .ensures) (room-raise _ (a .to - p .i) _ _ (search needs) (p .inv .3)),
-      raises-turn (p .counts) _ _ (a .t2) (p .i) (a .to) (search needs) (search needs) (r .ensures) (p .inv .4),
+      r .kept .0 ∙ p .inv .0,
+      rw (r .ensures) (room-raise _ (a .to - p .i) _ _ (search needs) (p .inv .1)),
+      raises-turn (p .counts) _ _ (a .t2) (p .i) (a .to) (search needs) (search needs) (r .ensures) (p .inv .2),
     )
 
 same-length : tie.Need-same-length Inv-loop μ-loop
@@ -62,7 +58,7 @@ returns : tie.Need-returns Inv-loop μ-loop
 returns c =
     let a = c .before .before .before .args in
     let p = c .before .loop in
-    sym (raises-none (p .counts) (a .t2) (p .i) (a .to) (search needs) (search needs)) ∙ p .inv .4
+    sym (raises-none (p .counts) (a .t2) (p .i) (a .to) (search needs)) ∙ p .inv .2
 
 pub raise-range-spec : {M : Type 1} → statement M
 raise-range-spec =

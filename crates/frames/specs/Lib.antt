@@ -1,0 +1,4 @@
+pub mod Run
+pub mod Charges
+pub mod Seen
+pub mod Serve

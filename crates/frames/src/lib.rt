@@ -1,0 +1,1 @@
+// Nothing runs here yet: the model of serving a frame stands in specs/.

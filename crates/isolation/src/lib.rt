@@ -1,0 +1,1 @@
+// Nothing runs here: that no party's calls reach another's answers is proved in proofs/.

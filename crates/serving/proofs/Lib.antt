@@ -1,0 +1,14 @@
+pub mod Seeing
+pub mod Agreeing
+pub mod Passing
+pub mod Sources
+pub mod Filling
+pub mod Releasing
+pub mod Walking
+pub mod Reading
+pub mod Serving
+pub mod Refusing
+pub mod Shortage
+pub mod Demands
+pub mod Parting
+pub mod Sessions

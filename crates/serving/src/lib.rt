@@ -1,0 +1,1 @@
+// Nothing runs here: that a served frame answers what the plain table answers is proved in proofs/.

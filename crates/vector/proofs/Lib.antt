@@ -1,0 +1,3 @@
+-- What the proofs of the functions use.
+pub mod Editing
+pub mod Answering

@@ -1,0 +1,64 @@
+use Rattle.vector.proofs.Editing.{push-can}
+use Rattle.vector.proofs.Answering.{push-full, push-short, push-done}
+use mathlib.Core.Path.{sym, _∙_}
+use Rattle.records.specs.Records.{recordOf}
+use borrow.Author.Needs.{needs}
+use Rattle.vector.proofs.push_back.Statement.{statement}
+use Rattle.vector.proofs.push_back.Tie as tie
+
+returns : tie.Need-returns
+returns c = push-full _ (recordOf (c .before .before .before .before .before .before .before .args .v)) _ (c .if1 .taken)
+
+add-length : tie.Need-add-length
+add-length c = search needs
+
+height-requires : tie.Need-height-requires
+height-requires c κs = search needs
+
+cast-if2 : tie.Need-cast-if2
+cast-if2 c = search needs
+
+add-if2 : tie.Need-add-if2
+add-if2 c = search needs
+
+returns-2 : tie.Need-returns-2
+returns-2 c = push-short _ (recordOf (c .before .before .before .before .before .before .before .before .before .before .args .v)) _ _ (c .before .before .before .if1 .left) (c .before .height .ensures .0) (c .if2 .taken)
+
+height-requires-2 : tie.Need-height-requires-2
+height-requires-2 c κs = search needs
+
+pushed-requires : tie.Need-pushed-requires
+pushed-requires c κs = push-can _ (recordOf (c .before .before .before .before .before .before .before .before .before .before .before .before .before .before .before .args .v)) _ _ (c .before .before .before .before .before .before .before .before .before .before .before .before .before .before .before .pre) (c .before .before .before .before .height2 .ensures .0) (c .before .before .before .before .height2 .ensures .1) (c .before .before .before .before .before .before .before .before .if1 .left) (c .before .before .before .before .before .before .height .ensures .0) (c .before .before .before .before .before .if2 .left)
+
+same-length : tie.Need-same-length
+same-length c = search needs
+
+same-length-2 : tie.Need-same-length-2
+same-length-2 c = search needs
+
+same-length-3 : tie.Need-same-length-3
+same-length-3 c = search needs
+
+same-length-4 : tie.Need-same-length-4
+same-length-4 c = search needs
+
+returns-3 : tie.Need-returns-3
+returns-3 c = c .before .before .before .before .before .before .before .before .pushed .ensures ∙ push-done _ (recordOf (c .before .before .before .before .before .before .before .before .before .before .before .before .before .before .before .before .before .before .before .before .before .before .before .before .args .v)) (c .before .before .before .before .before .before .before .before .before .before .before .before .before .before .before .before .before .before .before .before .before .before .before .before .args .value) _ (c .before .before .before .before .before .before .before .before .before .before .before .before .before .before .before .before .before .if1 .left) (c .before .before .before .before .before .before .before .before .before .before .before .before .before .before .before .height .ensures .0) (c .before .before .before .before .before .before .before .before .before .before .before .before .before .before .if2 .left)
+
+pub push-back-spec : {M : Type 1} → statement M
+push-back-spec =
+    tie.close
+    (tie.spec
+    returns
+    add-length
+    height-requires
+    cast-if2
+    add-if2
+    returns-2
+    height-requires-2
+    pushed-requires
+    same-length
+    same-length-2
+    same-length-3
+    same-length-4
+    returns-3)

@@ -1,0 +1,3 @@
+-- What the calls answer, and what they require.
+pub mod Calls
+pub mod Ready

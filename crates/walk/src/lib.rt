@@ -1,0 +1,173 @@
+// Module 5: sixteen walk records, lent flat and changed in place. A walk takes the elements of a version from both ends.
+use level::LEVELS;
+use level::PLACES;
+use level::WALKS;
+use lookup::Got;
+use records::Version;
+ghost use mathlib.Core.Path.{_≡_};
+ghost use mathlib.Core.Bool.{Bool, true, false};
+ghost use Prim.Native.Nat.{_+_, _*_, _<_, _≤_};
+ghost use Rattle.meaning.specs.Counting.{bit};
+ghost use Rattle.meaning.specs.Limits.{walkLevels};
+ghost use Rattle.records.specs.Records.{recordOf};
+ghost use Rattle.level.specs.Level.{places, levels};
+ghost use Rattle.walk.specs.Walk.{walks, slices, stored, openRecord, isEnded, versionIn, clearedFrom, closed, Walkable, stepped, takenBy};
+
+pub const NUMBERS: usize = 6;
+
+pub const ROOM: usize = WALKS * NUMBERS;
+
+// ---- opening and closing
+
+// The numbers of walk n: a version of which nothing is taken.
+fn store(numbers: &mut [u32; ROOM], n: u32, v: Version)
+    requires { ⌜ n < walks ⌝ }
+    ensures { λ _. ⌜ now (numbers .exit) ≡ stored (now (numbers .entry)) n (recordOf v) ⌝ }
+{
+    let at = NUMBERS * (n as usize);
+    numbers[at] = v.live;
+    numbers[at + 1] = v.root;
+    numbers[at + 2] = v.bits;
+    numbers[at + 3] = v.length;
+    numbers[at + 4] = 0;
+    numbers[at + 5] = 0;
+}
+
+// Of a closed walk: its levels are 0 already.
+pub fn open(numbers: &mut [u32; ROOM], n: u32, v: Version)
+    requires { ⌜ n < walks ⌝ }
+    ensures { λ _. ⌜ now (numbers .exit) ≡ stored (now (numbers .entry)) n (openRecord (recordOf v)) ⌝ }
+{
+    store(
+        numbers,
+        n,
+        Version {
+            live: 1,
+            root: v.root,
+            bits: v.bits,
+            length: v.length,
+        },
+    );
+}
+
+// Both stacks of a walk.
+fn clear(nodes: &mut [u32; PLACES], indices: &mut [i32; PLACES], k: usize)
+    requires { ⌜ k + 2 * walkLevels ≤ places ⌝ }
+    ensures { λ _. ⌜ levels (now (nodes .exit)) (now (indices .exit)) ≡ clearedFrom (2 * walkLevels) (levels (now (nodes .entry)) (now (indices .entry))) k ⌝ }
+{
+    let e = k + 2 * LEVELS;
+    let mut j = k;
+    while j < e {
+        level::pop(nodes, indices, j);
+        j += 1;
+    }
+}
+
+pub fn close(
+    numbers: &mut [u32; ROOM],
+    nodes: &mut [u32; PLACES],
+    indices: &mut [i32; PLACES],
+    n: u32,
+)
+    requires { ⌜ n < walks ⌝ }
+    ensures { λ _. ⌜ slices (now (numbers .exit)) (now (nodes .exit)) (now (indices .exit)) ≡ closed (slices (now (numbers .entry)) (now (nodes .entry)) (now (indices .entry))) n ⌝ }
+{
+    store(numbers, n, Version::empty());
+    clear(nodes, indices, 2 * LEVELS * (n as usize));
+}
+
+// ---- taking
+
+fn version(numbers: &[u32; ROOM], n: u32) -> Version
+    requires { ⌜ n < walks ⌝ }
+    ensures { λ r. ⌜ recordOf r ≡ versionIn (now (numbers .entry)) n ⌝ }
+{
+    let at = NUMBERS * (n as usize);
+    Version {
+        live: numbers[at],
+        root: numbers[at + 1],
+        bits: numbers[at + 2],
+        length: numbers[at + 3],
+    }
+}
+
+// All elements are taken, from one end and the other.
+fn ended(numbers: &[u32; ROOM], n: u32) -> bool
+    requires { ⌜ Walkable (now numbers) n ⌝ }
+    ensures { λ r. ⌜ r ≡ isEnded (now (numbers .entry)) n ⌝ }
+{
+    let at = NUMBERS * (n as usize);
+    numbers[at + 4] + numbers[at + 5] == numbers[at + 3]
+}
+
+// Which of a walk's stacks, and of its taken numbers.
+fn side(back: bool) -> usize
+    ensures { λ r. ⌜ (r ≡ bit back) × (r ≤ 1) ⌝ }
+{
+    back as usize
+}
+
+// The element that comes next from an end; of an ended walk nothing, and no stack is stored.
+fn take(
+    cells: &[u32],
+    used: &[u8],
+    numbers: &mut [u32; ROOM],
+    nodes: &mut [u32; PLACES],
+    indices: &mut [i32; PLACES],
+    n: u32,
+    back: bool,
+) -> Got
+    requires { ⌜ Walkable (now numbers) n ⌝ }
+    ensures { λ r. ⌜ stepped (slices (now (numbers .exit)) (now (nodes .exit)) (now (indices .exit))) r
+        ≡ takenBy (now (cells .entry)) (now (used .entry)) back (slices (now (numbers .entry)) (now (nodes .entry)) (now (indices .entry))) n ⌝ }
+{
+    if ended(numbers, n) {
+        return Got::Nothing;
+    }
+    let v = version(numbers, n);
+    let s = side(back);
+    let at = NUMBERS * (n as usize) + 4 + s;
+    let taken = numbers[at];
+    let x = levels::take(
+        cells,
+        used,
+        nodes,
+        indices,
+        back,
+        LEVELS * (2 * (n as usize) + s),
+        taken,
+        v,
+    );
+    numbers[at] = taken + 1;
+    Got::Element(x)
+}
+
+pub fn next(
+    cells: &[u32],
+    used: &[u8],
+    numbers: &mut [u32; ROOM],
+    nodes: &mut [u32; PLACES],
+    indices: &mut [i32; PLACES],
+    n: u32,
+) -> Got
+    requires { ⌜ Walkable (now numbers) n ⌝ }
+    ensures { λ r. ⌜ stepped (slices (now (numbers .exit)) (now (nodes .exit)) (now (indices .exit))) r
+        ≡ takenBy (now (cells .entry)) (now (used .entry)) false (slices (now (numbers .entry)) (now (nodes .entry)) (now (indices .entry))) n ⌝ }
+{
+    take(cells, used, numbers, nodes, indices, n, false)
+}
+
+pub fn next_back(
+    cells: &[u32],
+    used: &[u8],
+    numbers: &mut [u32; ROOM],
+    nodes: &mut [u32; PLACES],
+    indices: &mut [i32; PLACES],
+    n: u32,
+) -> Got
+    requires { ⌜ Walkable (now numbers) n ⌝ }
+    ensures { λ r. ⌜ stepped (slices (now (numbers .exit)) (now (nodes .exit)) (now (indices .exit))) r
+        ≡ takenBy (now (cells .entry)) (now (used .entry)) true (slices (now (numbers .entry)) (now (nodes .entry)) (now (indices .entry))) n ⌝ }
+{
+    take(cells, used, numbers, nodes, indices, n, true)
+}

@@ -1,0 +1,4 @@
+pub mod Records
+pub mod Opening
+pub mod Taking
+pub mod Closing
