@@ -1,0 +1,2 @@
+-- The audit is what its passes give.
+pub mod Judging

@@ -1,0 +1,110 @@
+// The comparison of the lengths with one N, and of each node with its code and its tally.
+ghost use mathlib.Core.Path.{_≡_};
+ghost use Prim.Native.Nat.{ℕ, _+_, _*_, _≤_, _<_};
+ghost use lib.ListN.{length, getD};
+ghost use Rattle.meaning.specs.Limits.{maxNodes, nodeCells};
+ghost use Rattle.audit_model.specs.Made.{nodesOf};
+ghost use Rattle.audit_model.specs.Records.{allTo};
+ghost use Rattle.audit_model.specs.Audit.{lengthsOk, spareOk, nodeOk};
+
+const MAX_NODES: usize = 65536;
+
+const CELLS: usize = audit_model::NODE_CELLS as usize;
+
+const WALK_NUMBERS: usize = audit_model::WALKS * audit_model::WALK_NUMBERS;
+
+const WALK_LEVELS: usize = audit_model::WALKS * 2 * audit_model::WALK_LEVELS;
+
+// Whether the lengths of kinds, used, cells, counts, order and the three walk slices fit one N in range.
+pub fn lengths_ok(
+    n: usize,
+    used: usize,
+    cells: usize,
+    counts: usize,
+    order: usize,
+    numbers: usize,
+    nodes: usize,
+    indices: usize,
+) -> bool
+    ensures { λ r. ⌜ r ≡ lengthsOk n used cells counts order numbers nodes indices ⌝ }
+{
+    if n > MAX_NODES {
+        return false;
+    }
+    let all = CELLS * n;
+    (1 <= n)
+        & (used == n)
+        & (cells == all)
+        & (counts == n)
+        & (order == n)
+        & (numbers == WALK_NUMBERS)
+        & (nodes == WALK_LEVELS)
+        & (indices == WALK_LEVELS)
+}
+
+// Whether the cells of a node from u upwards are 0.
+pub fn spare_ok(cells: &[u32], n: u32, u: u32) -> bool
+    ensures { λ r. ⌜ r ≡ spareOk u (λ (i : ℕ). getD (now (cells .entry)) (nodeCells * n + i) 0) ⌝ }
+{
+    let mut i: u32 = u;
+    while i < audit_model::NODE_CELLS {
+        let x = audit_reads::cell_at(cells, n, i);
+        if x != 0 {
+            return false;
+        }
+        i += 1;
+    }
+    true
+}
+
+// A free node stands in the order once, is linked by none and is 0; any other was reached, and its count is the links to it.
+pub fn node_ok(
+    kinds: &[u8],
+    used: &[u8],
+    counts: &[u32],
+    cells: &[u32],
+    codes: &[u32],
+    tallies: &[u32],
+    n: u32,
+) -> bool
+    ensures { λ r. ⌜ r ≡ nodeOk (nodesOf (now (kinds .entry)) (now (used .entry)) (now (cells .entry))) (now (counts .entry)) (now (codes .entry)) (now (tallies .entry)) n ⌝ }
+{
+    let i = n as usize;
+    let kind = audit_reads::byte_at(kinds, i);
+    let u = audit_reads::byte_at(used, i);
+    let count = audit_reads::word_at(counts, i);
+    let tally = audit_reads::word_at(tallies, i);
+    if kind == audit_model::FREE {
+        return (tally == 1) & (u == 0) & (count == 0);
+    }
+    let code = audit_reads::word_at(codes, i);
+    let same = (code != 0) & (tally == count);
+    if !same {
+        return false;
+    }
+    spare_ok(cells, n, u)
+}
+
+pub fn nodes_ok(
+    kinds: &[u8],
+    used: &[u8],
+    counts: &[u32],
+    cells: &[u32],
+    codes: &[u32],
+    tallies: &[u32],
+) -> bool
+    requires { ⌜ length (now kinds) ≤ maxNodes ⌝ }
+    ensures { λ r. ⌜ r ≡ allTo (length (now (kinds .entry)))
+        (nodeOk (nodesOf (now (kinds .entry)) (now (used .entry)) (now (cells .entry))) (now (counts .entry)) (now (codes .entry)) (now (tallies .entry))) ⌝ }
+{
+    let len = kinds.len() as u32;
+    let mut n: u32 = 0;
+    while n < len {
+        let right = node_ok(kinds, used, counts, cells, codes, tallies, n);
+        if !right {
+            return false;
+        }
+        n += 1;
+    }
+    true
+}

@@ -1,0 +1,3 @@
+-- What the descent's steps compute.
+pub mod Numbers
+pub mod Visiting

@@ -1,0 +1,2 @@
+-- What is read.
+pub mod Reading

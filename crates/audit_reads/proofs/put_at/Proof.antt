@@ -1,0 +1,24 @@
+-- `audit_reads::put_at` meets its contract.
+use mathlib.Core.Path.{sym}
+use lib.Seq.{set-out}
+use borrow.Author.Needs.{needs}
+use Rattle.audit_reads.proofs.put_at.Statement.{statement}
+use Rattle.audit_reads.proofs.put_at.Tie as tie
+
+mul-t : tie.Need-mul-t
+mul-t c = search needs
+
+slice-write-t : tie.Need-slice-write-t
+slice-write-t c = search needs
+
+same-length : tie.Need-same-length
+same-length c = search needs
+
+returns : tie.Need-returns
+returns c = search needs
+
+returns-2 : tie.Need-returns-2
+returns-2 c = sym (set-out _ _ _ (c .if1 .left))
+
+pub put-at-spec : {M : Type 1} → statement M
+put-at-spec = tie.close (tie.spec mul-t slice-write-t same-length returns returns-2)

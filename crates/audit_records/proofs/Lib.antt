@@ -1,0 +1,2 @@
+-- What the steps over the records compute.
+pub mod Recording

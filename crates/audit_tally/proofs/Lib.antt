@@ -1,0 +1,2 @@
+-- What the tallies' steps compute.
+pub mod Raising

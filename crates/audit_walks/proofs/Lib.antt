@@ -1,0 +1,2 @@
+-- What the comparison's steps compute.
+pub mod Walking
