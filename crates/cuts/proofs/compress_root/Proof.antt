@@ -1,5 +1,4 @@
 use Rattle.cuts.proofs.Cutting.{first-cell, root-compressed}
-use mathlib.Core.Path.{_∙_}
 use borrow.Author.Needs.{needs}
 use Rattle.cuts.proofs.compress_root.Statement.{statement}
 use Rattle.cuts.proofs.compress_root.Tie as tie

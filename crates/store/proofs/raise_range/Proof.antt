@@ -1,5 +1,5 @@
 use mathlib.Core.Path.{_≡_, sym, _∙_}
-use Prim.Native.Nat.{_-_}
+use Prim.Native.Nat.{_-_, _≤_}
 use lib.ListN.{length}
 use lib.Seq.{slice}
 use Rattle.store.specs.Store.{raises}
@@ -11,7 +11,8 @@ use Rattle.store.proofs.raise_range.Tie as tie
 
 abbrev Inv-loop : tie.InvT-loop
 Inv-loop counts₀ from to a i₀ counts i =
-    (length counts ≡ length counts₀)
+    (from ≤ i)
+    × (length counts ≡ length counts₀)
     × Room (to - i) counts
     × (raises counts (slice i to a) ≡ raises counts₀ (slice from to a))
 
@@ -31,8 +32,8 @@ raise-requires : tie.Need-raise-requires Inv-loop μ-loop
 raise-requires c κs =
     let a = c .before .before .before .before .args in
     let p = c .before .before .loop in (
-      rw (p .inv .0) (below-at _ (a .t2) (a .to) _ (c .before .before .before .before .pre .1 .0) (search needs) (search needs)),
-      room-less 1 _ _ (search needs) (p .inv .1),
+      rw (p .inv .1) (below-at _ (a .t2) (a .to) _ (c .before .before .before .before .pre .1 .0) (search needs) (search needs)),
+      room-less 1 _ _ (search needs) (p .inv .2),
     )
 
 add-i : tie.Need-add-i Inv-loop μ-loop
@@ -46,9 +47,10 @@ loop-again c =
     let a = c .before .before .before .before .before .before .before .args in
     let p = c .before .before .before .before .before .loop in
     let r = c .before .before .raise in (
-      r .kept .0 ∙ p .inv .0,
-      rw (r .ensures) (room-raise _ (a .to - p .i) _ _ (search needs) (p .inv .1)),
-      raises-turn (p .counts) _ _ (a .t2) (p .i) (a .to) (search needs) (search needs) (r .ensures) (p .inv .2),
+      search needs,
+      r .kept .0 ∙ p .inv .1,
+      rw (r .ensures) (room-raise _ (a .to - p .i) _ _ (search needs) (p .inv .2)),
+      raises-turn (p .counts) _ _ (a .t2) (p .i) (a .to) (search needs) (search needs) (r .ensures) (p .inv .3),
     )
 
 same-length : tie.Need-same-length Inv-loop μ-loop
@@ -58,7 +60,7 @@ returns : tie.Need-returns Inv-loop μ-loop
 returns c =
     let a = c .before .before .before .args in
     let p = c .before .loop in
-    sym (raises-none (p .counts) (a .t2) (p .i) (a .to) (search needs)) ∙ p .inv .2
+    sym (raises-none (p .counts) (a .t2) (p .i) (a .to) (search needs)) ∙ p .inv .3
 
 pub raise-range-spec : {M : Type 1} → statement M
 raise-range-spec =

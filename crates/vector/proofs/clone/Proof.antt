@@ -1,5 +1,3 @@
-use Rattle.store.specs.Store.{raises}
-use Rattle.paths.specs.Edits.{shareEdit}
 use Rattle.vector.proofs.Editing.{root-shared}
 use borrow.Author.Needs.{needs}
 use Rattle.vector.proofs.clone.Statement.{statement}

@@ -1,6 +1,6 @@
 use Rattle.vector.proofs.Editing.{push-can}
 use Rattle.vector.proofs.Answering.{push-full, push-short, push-done}
-use mathlib.Core.Path.{sym, _∙_}
+use mathlib.Core.Path.{_∙_}
 use Rattle.records.specs.Records.{recordOf}
 use borrow.Author.Needs.{needs}
 use Rattle.vector.proofs.push_back.Statement.{statement}
