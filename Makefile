@@ -2,15 +2,18 @@
 JUMPERLOFT_ORIGINAL ?= $(abspath ../shared/docs/src/src/vector/mod.rs)
 export JUMPERLOFT_ORIGINAL
 JUDGE = cargo run --quiet --release --offline -p judge --
+# the driver holds our code against the original where its text is at hand, and against its recorded answers where it isn't
+WITH_ORIGINAL = $(if $(wildcard $(JUMPERLOFT_ORIGINAL)),--features original)
+DRIVE = cargo run --quiet --release --offline -p drive $(WITH_ORIGINAL) --
 
-.PHONY: run test format kinds oracle record
+.PHONY: run test format kinds oracle drive soak bench-audit record
 
 run:
-	@echo 'jumperloft: there is no program yet, only its meaning (crates/meaning) and some of its modules' >&2
+	@echo 'jumperloft: there is no program yet, only its meaning (crates/meaning) and its modules' >&2
 	@exit 1
 
 # what fails before the last line makes it fail; the last line is rt ci's
-test: format oracle kinds
+test: format oracle kinds drive
 	@rt ci
 
 format:
@@ -24,8 +27,24 @@ kinds:
 oracle:
 	@if ! command -v cargo >/dev/null 2>&1; then echo 'oracle: SKIPPED, there is no cargo on this machine'; \
 	elif ! [ -f "$$JUMPERLOFT_ORIGINAL" ]; then echo "oracle: SKIPPED, the original's text is not at $$JUMPERLOFT_ORIGINAL"; \
-	else cd oracle && cargo test --quiet --offline && $(JUDGE) costs && $(JUDGE) recorded recorded; fi
+	else cd oracle && cargo test --quiet --offline -p archery -p formulas -p judge && $(JUDGE) costs && $(JUDGE) recorded recorded; fi
+
+# our code, compiled, against the original or its recorded answers; our audit against a plain one over damaged states
+drive:
+	@if ! command -v cargo >/dev/null 2>&1; then echo 'drive: SKIPPED, there is no cargo on this machine'; \
+	else mkdir -p target; rt staticlib trial >target/staticlib.log 2>&1 || { tail -20 target/staticlib.log; exit 1; }; \
+	cd oracle && $(DRIVE) edits && $(DRIVE) walks && $(DRIVE) compare && $(DRIVE) audit --states 200000 --seed 1; fi
+
+# the same at length: two million damaged states
+soak:
+	@mkdir -p target; rt staticlib trial >target/staticlib.log 2>&1 || { tail -20 target/staticlib.log; exit 1; }
+	@cd oracle && $(DRIVE) audit --states 2000000 --seed 2
+
+# the figures of docs/SPEED.md
+bench-audit:
+	@mkdir -p target; rt staticlib trial >target/staticlib.log 2>&1 || { tail -20 target/staticlib.log; exit 1; }
+	@cd oracle && $(DRIVE) bench-audit
 
 # writes the recorded answers anew
 record:
-	@cd oracle && $(JUDGE) record recorded
+	@cd oracle && $(JUDGE) record recorded && $(DRIVE) record recorded
