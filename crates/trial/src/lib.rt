@@ -1,10 +1,14 @@
-// A library for tests: the vector's calls, exported under plain names. An answer's enum becomes document 01's number.
+// A library for tests: the vector's calls, exported under plain names.
+mod answers;
+mod walks;
+
+use answers::Answer;
+use answers::numbered;
+use answers::of_edited;
+use answers::of_got;
+use answers::of_version;
 use compare::Ordering;
-use level::PLACES;
-use lookup::Got;
 use records::Version;
-use vector::Edited;
-use walk::ROOM;
 ghost use mathlib.Core.Path.{_≡_};
 ghost use Prim.Native.Nat.{_<_};
 ghost use lib.ListN.{length};
@@ -13,71 +17,8 @@ ghost use Rattle.shape.specs.Legal.{Legal};
 ghost use Rattle.store.specs.Store.{storeOf};
 ghost use Rattle.sweep.specs.Ready.{Releasable};
 ghost use Rattle.vector.specs.Ready.{Linkable, Steady, Editable, SetWay, PushWay, DropWay};
-ghost use Rattle.walk.specs.Walk.{walks, Walkable};
 
 const SLOTS: usize = 64;
-
-const NOTHING_THERE: u32 = 8;
-
-// What a call answers; what it doesn't name is 0.
-#[repr(C)]
-pub struct Answer {
-    // Document 01's number.
-    pub number: u32,
-    pub value: u32,
-    pub copied: u32,
-    pub live: u32,
-    pub root: u32,
-    pub bits: u32,
-    pub length: u32,
-    // The free nodes, where the call knows them.
-    pub free: usize,
-}
-
-// ---- answers
-
-fn numbered(number: u32, value: u32, free: usize) -> Answer {
-    Answer {
-        number: number,
-        value: value,
-        copied: 0,
-        live: 0,
-        root: 0,
-        bits: 0,
-        length: 0,
-        free: free,
-    }
-}
-
-fn of_version(v: Version, copied: u32, free: usize) -> Answer {
-    Answer {
-        number: 0,
-        value: 0,
-        copied: copied,
-        live: v.live,
-        root: v.root,
-        bits: v.bits,
-        length: v.length,
-        free: free,
-    }
-}
-
-fn of_edited(e: Edited, free: usize) -> Answer {
-    match e {
-        Edited::Done(d) => of_version(d.version, d.copied, d.free),
-        Edited::BadBits => numbered(7, 0, free),
-        Edited::NothingThere => numbered(NOTHING_THERE, 0, free),
-        Edited::Full => numbered(9, 0, free),
-        Edited::NoNodes => numbered(10, 0, free),
-    }
-}
-
-fn of_got(g: Got) -> Answer {
-    match g {
-        Got::Element(x) => numbered(0, x, 0),
-        Got::Nothing => numbered(NOTHING_THERE, 0, 0),
-    }
-}
 
 // ---- the audit
 
@@ -262,53 +203,4 @@ pub extern "C" fn jumperloft_trial_compare(cells: &[u32], a: Version, b: Version
         Ordering::Equal => numbered(0, 0, 0),
         Ordering::Greater => numbered(0, 1, 0),
     }
-}
-
-// ---- walks
-
-#[no_mangle]
-pub extern "C" fn jumperloft_trial_walk_open(numbers: &mut [u32; ROOM], n: u32, v: Version)
-    requires { ⌜ n < walks ⌝ }
-{
-    walk::open(numbers, n, v);
-}
-
-#[no_mangle]
-pub extern "C" fn jumperloft_trial_walk_next(
-    cells: &[u32],
-    used: &[u8],
-    numbers: &mut [u32; ROOM],
-    nodes: &mut [u32; PLACES],
-    indices: &mut [i32; PLACES],
-    n: u32,
-) -> Answer
-    requires { ⌜ Walkable (now numbers) n ⌝ }
-{
-    of_got(walk::next(cells, used, numbers, nodes, indices, n))
-}
-
-#[no_mangle]
-pub extern "C" fn jumperloft_trial_walk_next_back(
-    cells: &[u32],
-    used: &[u8],
-    numbers: &mut [u32; ROOM],
-    nodes: &mut [u32; PLACES],
-    indices: &mut [i32; PLACES],
-    n: u32,
-) -> Answer
-    requires { ⌜ Walkable (now numbers) n ⌝ }
-{
-    of_got(walk::next_back(cells, used, numbers, nodes, indices, n))
-}
-
-#[no_mangle]
-pub extern "C" fn jumperloft_trial_walk_close(
-    numbers: &mut [u32; ROOM],
-    nodes: &mut [u32; PLACES],
-    indices: &mut [i32; PLACES],
-    n: u32,
-)
-    requires { ⌜ n < walks ⌝ }
-{
-    walk::close(numbers, nodes, indices, n);
 }

@@ -2,7 +2,7 @@
 
 use crate::ffi;
 use crate::hostile::{cycles, scattered};
-use crate::lent::{Lent, SLOTS};
+use crate::lent::{Lent, SLOTS, WALKS};
 use crate::ours::Ours;
 use crate::plain_audit;
 use crate::state::State;
@@ -38,6 +38,8 @@ pub fn bench_audit() -> bool {
     }
     let name = "256 nodes, 64 versions that share a list of 500, bits 5";
     line(name, shared(256, 5, 500).lent());
+    let name = "256 nodes, 64 versions and 16 walks of a binary list of 200";
+    line(name, walked(256, 1, 200).lent());
     for nodes in [1, 256, POOL] {
         line(&format!("{nodes} nodes, fresh"), &Lent::fresh(nodes));
     }
@@ -64,6 +66,22 @@ fn shared(pool: usize, bits: u32, length: u32) -> State {
     for slot in 1..SLOTS {
         let set = state.set(0, slot, element(slot as u32) % length, 7);
         set.expect("nodes are free");
+    }
+    state
+}
+
+/// Every slot and every walk has the list, and each walk has taken some from both ends.
+fn walked(pool: usize, bits: u32, length: u32) -> State {
+    let mut state = list(pool, bits, length);
+    for slot in 1..SLOTS {
+        state.clone_version(0, slot);
+    }
+    for walk in 0..WALKS {
+        state.open_walk(walk, walk);
+        for step in 0..=walk {
+            let taken = state.next(walk, step % 2 == 1);
+            taken.expect("the list is longer");
+        }
     }
     state
 }
