@@ -82,7 +82,7 @@ module _ {s : Store} (kind : ℕ) {u : ℕ} {a old : List ℕ} (k : Kept s old) 
       (omega (arith, sum-but (s .nodes) (made .nodes) (nodeCount s) (top s) n inside (children-le k) make-same, free-linkless (s .nodes) (top s) n (top-free k some)))
 
   -- a branch links its first u cells
-  branch-links : kind ≡ BRANCH → (n : ℕ) → cellLinks (made .nodes) (top s) n ≡ occurrences n (take u a)
+  pub branch-links : kind ≡ BRANCH → (n : ℕ) → cellLinks (made .nodes) (top s) n ≡ occurrences n (take u a)
   unfolding make
   branch-links e n =
       write-links (s .nodes) (top s) kind u a (filled .whole) (node-fits k (top s) inside) n inside (omega (arith, inside, k .sized .used)) e (filled .fits)

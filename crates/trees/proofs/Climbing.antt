@@ -32,19 +32,19 @@ use Rattle.trees.proofs.Sources.{leaf-source, branch-source, child-foun
 
 -- ---- the facts of a step
 
-leaf-step : (s : Nodes) (bits m n i : ℕ) (c : Source) → LegalBits bits → LeafSource s bits m n c → Step s c (bucket bits 0 i)
+pub leaf-step : (s : Nodes) (bits m n i : ℕ) (c : Source) → LegalBits bits → LeafSource s bits m n c → Step s c (bucket bits 0 i)
 leaf-step s bits m n i c legal q =
     let most = degree-most bits (legal .most) in
     let small = bucket-below bits 0 i in
     record { whole = q .whole; room = omega (arith, q .uses, q .room); small = omega arith; spare = q .spare }
 
-branch-step : (s : Nodes) (bits h m n i : ℕ) (c : Source) → LegalBits bits → BranchSource s bits h m n c → Step s c (bucket bits (suc h) i)
+pub branch-step : (s : Nodes) (bits h m n i : ℕ) (c : Source) → LegalBits bits → BranchSource s bits h m n c → Step s c (bucket bits (suc h) i)
 branch-step s bits h m n i c legal q =
     let most = degree-most bits (legal .most) in
     let small = bucket-below bits (suc h) i in
     record { whole = q .whole; room = omega (arith, q .room); small = omega arith; spare = q .spare }
 
-branch-linked : (s : Nodes) (bits h m n : ℕ) (c : Source) → BranchSource s bits h m n c → Linked s c
+pub branch-linked : (s : Nodes) (bits h m n : ℕ) (c : Source) → BranchSource s bits h m n c → Linked s c
 branch-linked s bits h m n c q i l = shaped-used s bits h _ (getD (c .cells) i 0) (q .children i l)
 
 -- ---- set and push
@@ -68,7 +68,7 @@ assoc-climbs s bits (suc h) there m n index v legal z p le =
 
 -- ---- a new root
 
-root-spare : (root : ℕ) → Spare (root ∷ replicate (nodeCells - 1) 0) 1
+pub root-spare : (root : ℕ) → Spare (root ∷ replicate (nodeCells - 1) 0) 1
 root-spare root zero l m = absurd (lt-irrefl zero (omega arith))
 root-spare root (suc i) l m = replicate-at (nodeCells - 1) i 0
 

@@ -44,14 +44,14 @@ each-occurs P (x ∷ xs) n h l = pick (ℕ-discrete x n) (each-occurs P xs n (h 
 
 -- ---- what is written
 
-put-filled : (s : Nodes) (c : Source) (b x : ℕ) → Step s c b → ((n i : ℕ) → kindOf s n ≢ FREE → usedOf s n ≤ i → i < nodeCells → cellOf s n i ≡ 0) → Filled (max (c .used) (b + 1)) (set (c .cells) b x)
+pub put-filled : (s : Nodes) (c : Source) (b x : ℕ) → Step s c b → ((n i : ℕ) → kindOf s n ≢ FREE → usedOf s n ≤ i → i < nodeCells → cellOf s n i ≡ 0) → Filled (max (c .used) (b + 1)) (set (c .cells) b x)
 put-filled s c b x p tidy = record {
   fits = omega (arith, p .room, p .small);
   whole = length-set (c .cells) b x ∙ p .whole;
   spare = put-spare (c .cells) (c .used) b x (p .spare tidy);
 }
 
-cut-filled : (s : Nodes) (c : Source) (b : ℕ) → Step s c b → c .used ≤ b + 1 → ((n i : ℕ) → kindOf s n ≢ FREE → usedOf s n ≤ i → i < nodeCells → cellOf s n i ≡ 0) → Filled b (set (c .cells) b 0)
+pub cut-filled : (s : Nodes) (c : Source) (b : ℕ) → Step s c b → c .used ≤ b + 1 → ((n i : ℕ) → kindOf s n ≢ FREE → usedOf s n ≤ i → i < nodeCells → cellOf s n i ≡ 0) → Filled b (set (c .cells) b 0)
 cut-filled s c b p l tidy = record {
   fits = omega (arith, p .small);
   whole = length-set (c .cells) b 0 ∙ p .whole;

@@ -6,3 +6,7 @@ pub mod Back
 pub mod Emptying
 pub mod Tables
 pub mod Stands
+pub mod Once
+pub mod Within
+pub mod Shares
+pub mod Alone
