@@ -1,6 +1,6 @@
--- The checks 1 to 10 from what they look at: the frame, and a few numbers of the records that it names.
+-- The checks 1 to 10 from what they look at: the frame, and a few facts of the records that it names.
 use mathlib.Core.Bool.{Bool, false, not, _&&_, _||_}
-use mathlib.Core.List.{List, [], _∷_}
+use mathlib.Core.List.{List, [], _∷_, _++_}
 use Prim.Native.Nat.{ℕ, _+_}
 use lib.Dec.{leb, ltb, eqb}
 use Rattle.meaning.specs.Limits.{lastParty, lastSlot, lastWalk, lastOperation, host, maxBits, maxLength, NO-PARTY, NO-OPERATION, HOST-ONLY, OUT-OF-RANGE, EMPTY-SOURCE, LIVE-TARGET, BAD-BITS, NOTHING-THERE, FULL, NO-NODES}
@@ -10,14 +10,18 @@ use Rattle.meaning.specs.Checks.{Check, _if_}
 use Rattle.frames.specs.Run.{Run, sourceIn, targetIn, walkedIn, openedIn}
 use Rattle.frames.specs.Charges.{chargeOf}
 
-pub record Seen : Type 0 where
+-- which of the slots and walks that a frame can name are live or open
+pub record Standing : Type 0 where
   pub sourceLive : Bool
-  pub bits : ℕ
-  pub length : ℕ
   pub targetLive : Bool
   pub walkOpen : Bool
-  pub ended : Bool
   pub openedOpen : Bool
+
+pub record Seen : Type 0 where
+  pub standing : Standing
+  pub bits : ℕ
+  pub length : ℕ
+  pub ended : Bool
   pub free : ℕ
 
 -- in a running state
@@ -26,13 +30,16 @@ seenIn r f =
     let v = sourceIn r f in
     let w = walkedIn r f in
     record {
-      sourceLive = eqb (v .live) 1;
+      standing =
+          record {
+            sourceLive = eqb (v .live) 1;
+            targetLive = eqb (targetIn r f .live) 1;
+            walkOpen = eqb (w .version .live) 1;
+            openedOpen = eqb (openedIn r f .version .live) 1;
+          };
       bits = v .bits;
       length = v .length;
-      targetLive = eqb (targetIn r f .live) 1;
-      walkOpen = eqb (w .version .live) 1;
       ended = eqb (w .front + w .back) (w .version .length);
-      openedOpen = eqb (openedIn r f .version .live) 1;
       free = r .store .free;
     }
 
@@ -49,7 +56,7 @@ isOut position n = false
 isOut element n = false
 
 -- 5: what the slot field names
-unfoldable pub isMissing : Role → Seen → Bool
+unfoldable pub isMissing : Role → Standing → Bool
 isMissing source x = not (x .sourceLive)
 isMissing walked x = not (x .walkOpen)
 isMissing filled x = false
@@ -61,7 +68,7 @@ isMissing position x = false
 isMissing element x = false
 
 -- 5: the other source of a compare
-unfoldable pub isOtherMissing : Role → Seen → Bool
+unfoldable pub isOtherMissing : Role → Standing → Bool
 isOtherMissing source x = not (x .targetLive)
 isOtherMissing walked x = false
 isOtherMissing filled x = false
@@ -73,7 +80,7 @@ isOtherMissing position x = false
 isOtherMissing element x = false
 
 -- 6: what the destination field names
-unfoldable pub isTaken : Role → Seen → Bool
+unfoldable pub isTaken : Role → Standing → Bool
 isTaken filled x = x .targetLive
 isTaken opened x = x .openedOpen
 isTaken source x = false
@@ -112,8 +119,9 @@ isFullOf anItem x = false
 isFullOf itemLeft x = false
 isFullOf nothing x = false
 
-unfoldable pub seenChecks : Op → Frame → Seen → List Check
-seenChecks o f x =
+-- 1 to 6: who asks, and what stands where
+unfoldable pub entryChecks : Op → Frame → Standing → List Check
+entryChecks o f x =
     let u = uses o in
     (NO-PARTY if ltb lastParty (f .party))
     ∷ (NO-OPERATION if ltb lastOperation (f .operation))
@@ -121,8 +129,18 @@ seenChecks o f x =
     ∷ (OUT-OF-RANGE if isOut (u .slot) (f .slot) || isOut (u .destination) (f .destination) || isOut (u .index) (f .index) || isOut (u .value) (f .value))
     ∷ (EMPTY-SOURCE if isMissing (u .slot) x || isOtherMissing (u .destination) x)
     ∷ (LIVE-TARGET if isTaken (u .destination) x)
-    ∷ (BAD-BITS if isBadBits (u .index) (f .index))
+    ∷ []
+
+-- 7 to 10: what an operation does not find
+unfoldable pub findChecks : Op → Frame → Seen → List Check
+findChecks o f x =
+    let u = uses o in
+    (BAD-BITS if isBadBits (u .index) (f .index))
     ∷ (NOTHING-THERE if isNothing (u .wants) (f .index) x)
     ∷ (FULL if isFullOf (u .wants) x)
     ∷ (NO-NODES if ltb (x .free) (chargeOf o (x .bits) (x .length)))
     ∷ []
+
+unfoldable pub seenChecks : Op → Frame → Seen → List Check
+unfolding entryChecks findChecks
+seenChecks o f x = entryChecks o f (x .standing) ++ findChecks o f x

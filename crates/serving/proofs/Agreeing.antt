@@ -17,7 +17,7 @@ use Rattle.meaning.specs.Checks.{nodes, isShort, noFault, faults, anyField, isE
 use Rattle.lookup.proofs.Found.{contents-length}
 use Rattle.frames.specs.Run.{Run, sourceIn, targetIn, walkedIn, openedIn}
 use Rattle.frames.specs.Charges.{chargeOf}
-use Rattle.frames.specs.Seen.{Seen, seenIn, isOut, isMissing, isOtherMissing, isTaken, isBadBits, isNothing, isFullOf, seenChecks}
+use Rattle.frames.specs.Seen.{Seen, seenIn, isOut, isMissing, isOtherMissing, isTaken, isBadBits, isNothing, isFullOf, entryChecks, findChecks, seenChecks}
 use Rattle.frames.specs.Serve.{verdict}
 use Rattle.serving.specs.States.{Runs, supplyIn}
 use Rattle.serving.specs.Does.{giverIn, takerIn}
@@ -25,14 +25,14 @@ use Rattle.serving.proofs.Seeing.{slot-seen, walk-seen, version-legal, 
 
 -- what is seen is what the parties have
 record Agrees (o : Op) (f : Frame) (g t : Party) (n : ℕ) (x : Seen) : Type 0 where
-  source : x .sourceLive ≡ isLive (slotAt g (f .slot))
+  source : x .standing .sourceLive ≡ isLive (slotAt g (f .slot))
   long : x .length ≡ length (sourceOf g f .items)
   none : eqb (x .length) 0 ≡ isEmpty (sourceOf g f .items)
-  target : x .targetLive ≡ isLive (slotAt t (f .destination))
-  other : o ≡ compare → x .targetLive ≡ isLive (slotAt g (f .destination))
-  walked : x .walkOpen ≡ isOpen (walkAt g (f .slot))
+  target : x .standing .targetLive ≡ isLive (slotAt t (f .destination))
+  other : o ≡ compare → x .standing .targetLive ≡ isLive (slotAt g (f .destination))
+  walked : x .standing .walkOpen ≡ isOpen (walkAt g (f .slot))
   ended : x .ended ≡ isEmpty (leftOf g f)
-  opened : x .openedOpen ≡ isOpen (walkAt t (f .destination))
+  opened : x .standing .openedOpen ≡ isOpen (walkAt t (f .destination))
   free : x .free ≡ n
   charge : chargeOf o (x .bits) (x .length) ≡ cost o (sourceOf g f) .charge
 
@@ -41,7 +41,7 @@ or-none true = refl
 or-none false = refl
 
 checks-agree : (o : Op) (f : Frame) (g t : Party) (n : ℕ) (x : Seen) → Agrees o f g t n x → seenChecks o f x ≡ checks o (nodes n) f g t
-unfolding seenChecks checks uses anyone hostAlone anyField faults noFault isOut isMissing isOtherMissing isTaken isBadBits isNothing isFullOf nothingThere isFull isShort
+unfolding entryChecks findChecks seenChecks checks uses anyone hostAlone anyField faults noFault isOut isMissing isOtherMissing isTaken isBadBits isNothing isFullOf nothingThere isFull isShort
 checks-agree new f g t n x a = rw (a .charge, a .free, a .target) (simp or-none)
 checks-agree clone f g t n x a = rw (a .charge, a .free, a .source, a .target) (simp or-none)
 checks-agree release f g t n x a = rw (a .charge, a .free, a .source) (simp or-none)

@@ -12,7 +12,7 @@ use Rattle.meaning.specs.Counting.{Each}
 use Rattle.meaning.specs.Frames.{Frame}
 use Rattle.meaning.specs.Operations.{Op, new, clone, release, len, get, set-at, push-back, drop-last, open-walk, next, next-back, close-walk, hand-over, free-nodes, first, last, compare, unknown, opOf, anyone, hostAlone, uses, ownerOr, giver, taker}
 use Rattle.meaning.specs.Checks.{Check, _if_, firstOf}
-use Rattle.frames.specs.Seen.{Seen, isOut, isMissing, isOtherMissing, seenChecks}
+use Rattle.frames.specs.Seen.{Seen, isOut, isMissing, isOtherMissing, entryChecks, findChecks, seenChecks}
 use Rattle.serving.specs.Passed.{Passed}
 
 none-applies : (cs : List Check) → Each (λ (c : Check). c .number ≢ DONE) cs → firstOf cs ≡ DONE → Each (λ (c : Check). c .applies ≡ false) cs
@@ -26,17 +26,17 @@ none-applies (c ∷ cs) h e = pick (c .applies) refl e (none-applies cs (h .1))
     pick false a k ih = (a, ih k)
 
 checks-named : (o : Op) (f : Frame) (x : Seen) → Each (λ (c : Check). c .number ≢ DONE) (seenChecks o f x)
-unfolding seenChecks _if_
+unfolding entryChecks findChecks seenChecks _if_
 checks-named o f x = omega arith
 
 pub passed : (o : Op) (f : Frame) (x : Seen) → firstOf (seenChecks o f x) ≡ DONE → Passed o f x
-unfolding seenChecks _if_
+unfolding entryChecks findChecks seenChecks _if_
 passed o f x e =
     let (a, (b, (c, (d, (i, (j, (k, (l, (m, (n, _)))))))))) = none-applies (seenChecks o f x) (checks-named o f x) e in
     record { party = a; operation = b; allowed = c; range = d; source = i; target = j; bits = k; there = l; room = m; nodes = n }
 
 pub passes : (o : Op) (f : Frame) (x : Seen) → Passed o f x → firstOf (seenChecks o f x) ≡ DONE
-unfolding seenChecks _if_ firstOf
+unfolding entryChecks findChecks seenChecks _if_ firstOf
 passes o f x p = rw (p .party, p .operation, p .allowed, p .range, p .source, p .target, p .bits, p .there, p .room, p .nodes)
 
 -- ---- both or neither
@@ -104,8 +104,8 @@ module _ (o : Op) (f : Frame) (x : Seen) (p : Passed o f x) where
   pub destination-range : isOut (uses o .destination) (f .destination) ≡ false
   destination-range = or-second (isOut (uses o .slot) (f .slot)) _ (or-first _ _ (or-first _ _ (p .range)))
 
-  pub slot-present : isMissing (uses o .slot) x ≡ false
+  pub slot-present : isMissing (uses o .slot) (x .standing) ≡ false
   slot-present = or-first _ _ (p .source)
 
-  pub other-present : isOtherMissing (uses o .destination) x ≡ false
-  other-present = or-second (isMissing (uses o .slot) x) _ (p .source)
+  pub other-present : isOtherMissing (uses o .destination) (x .standing) ≡ false
+  other-present = or-second (isMissing (uses o .slot) (x .standing)) _ (p .source)

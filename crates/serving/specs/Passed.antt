@@ -13,8 +13,8 @@ pub record Passed (o : Op) (f : Frame) (x : Seen) : Type 0 where
   pub operation : ltb lastOperation (f .operation) ≡ false
   pub allowed : uses o .hostOnly && not (eqb (f .party) host) ≡ false
   pub range : isOut (uses o .slot) (f .slot) || isOut (uses o .destination) (f .destination) || isOut (uses o .index) (f .index) || isOut (uses o .value) (f .value) ≡ false
-  pub source : isMissing (uses o .slot) x || isOtherMissing (uses o .destination) x ≡ false
-  pub target : isTaken (uses o .destination) x ≡ false
+  pub source : isMissing (uses o .slot) (x .standing) || isOtherMissing (uses o .destination) (x .standing) ≡ false
+  pub target : isTaken (uses o .destination) (x .standing) ≡ false
   pub bits : isBadBits (uses o .index) (f .index) ≡ false
   pub there : isNothing (uses o .wants) (f .index) x ≡ false
   pub room : isFullOf (uses o .wants) x ≡ false
