@@ -1,4 +1,6 @@
 // A frame and its answer, by value.
+pub mod operations;
+
 ghost use mathlib.Core.Path.{_≡_};
 
 // A request of one call. What its fields name is for the operation to say.

@@ -78,7 +78,7 @@ pub fn close(
 
 // ---- taking
 
-fn version(numbers: &[u32; ROOM], n: u32) -> Version
+pub fn version(numbers: &[u32; ROOM], n: u32) -> Version
     requires { ⌜ n < walks ⌝ }
     ensures { λ r. ⌜ recordOf r ≡ versionIn (now (numbers .entry)) n ⌝ }
 {
@@ -108,7 +108,7 @@ fn side(back: bool) -> usize
 }
 
 // The element that comes next from an end; of an ended walk nothing, and no stack is stored.
-fn take(
+pub fn take(
     cells: &[u32],
     used: &[u8],
     numbers: &mut [u32; ROOM],
