@@ -1,12 +1,12 @@
 -- The bytes of a number, of a frame and of an answer, at their places.
-use mathlib.Core.Path.{_≡_, refl, _∙_}
+use mathlib.Core.Path.{_≡_, refl, ap, _∙_}
 use mathlib.Core.List.{List, [], _∷_, append-assoc}
 use Prim.Native.Nat.{ℕ, zero, suc, _+_, _*_, _/_, _%_, _≤_, _<_}
 use native.Mathlib.Nat.{lt-irrefl, add-zero}
 use native.Mathlib.Numerals.{add-one}
 use native.Mathlib.Omega.{arith}
 use lib.ListN.{length, take, drop, getD, set, length-take, length-drop, length-append}
-use lib.Seq.{drop-cons, drop-drop, take-take, getD-take, getD-drop, sets, sets-eq}
+use lib.Seq.{drop-cons, drop-drop, take-take, getD-take, getD-drop, set-comm, sets, sets-eq}
 use Rattle.meaning.specs.Limits.{frameSize, answerSize}
 use Rattle.meaning.specs.Frames as meaning
 use Rattle.meaning.specs.Frames.{fromBytes, toBytes, decode, encode}
@@ -62,13 +62,22 @@ put-by-sets : (bytes room : List ℕ) (at : ℕ) → at + length bytes ≤ lengt
 unfolding put
 put-by-sets bytes room at l = sets-eq bytes room at l ∙ append-assoc (take at room) bytes (drop (at + length bytes) room)
 
+-- a store in front of others changes places with them
+set-before-sets : (bytes room : List ℕ) (i j b : ℕ) → i < j → set (sets room j bytes) i b ≡ sets (set room i b) j bytes
+set-before-sets [] room i j b l = refl
+set-before-sets (x ∷ bytes) room i j b l =
+    set-before-sets bytes (set room j x) i (suc j) b (omega arith)
+    ∙ ap (λ (r : List ℕ). sets r (suc j) bytes) (set-comm room j i x b (λ e. lt-irrefl j (omega arith)))
+
 pub answer-is : (room : List ℕ) (at : ℕ) (a : meaning.Answer) → at + answerSize ≤ length room
-    → set (set (set (set (set (set room at (a .number)) (at + 1) (a .fresh)) (at + 2) (a .value / 16777216 % 256)) (at + 3) (a .value / 65536 % 256)) (at + 4) (a .value / 256 % 256)) (at + 5) (a .value % 256)
+    → set (set (set (set (set (set room (at + 2) (a .value / 16777216 % 256)) (at + 3) (a .value / 65536 % 256)) (at + 4) (a .value / 256 % 256)) (at + 5) (a .value % 256)) at (a .number)) (at + 1) (a .fresh)
     ≡ put room at (encode a)
 unfolding encode toBytes
 answer-is room at a l =
     rw (add-one at, two, three, four, five, one)
-    (put-by-sets (encode a) room at l)
+    (ap (λ (r : List ℕ). set r (suc at) (a .fresh)) (set-before-sets (toBytes 4 (a .value)) room at (suc (suc at)) (a .number) (omega arith))
+    ∙ set-before-sets (toBytes 4 (a .value)) (set room at (a .number)) (suc at) (suc (suc at)) (a .fresh) (omega arith)
+    ∙ put-by-sets (encode a) room at l)
   where
     one : a .value % 256 ≡ a .value / 1 % 256
     one = omega arith

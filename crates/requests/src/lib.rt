@@ -63,10 +63,11 @@ pub fn put_answer(room: &mut [u8], at: usize, a: Answer)
     ensures { λ _. ⌜ now (room .exit) ≡ put (now (room .entry)) at (encode (answerOf a)) ⌝ }
 {
     let value = a.value;
-    room[at] = a.number;
-    room[at + 1] = a.fresh;
+    // With nothing stored before them, the 4 bytes become one store.
     room[at + 2] = ((value >> 24) % 256) as u8;
     room[at + 3] = ((value >> 16) % 256) as u8;
     room[at + 4] = ((value >> 8) % 256) as u8;
     room[at + 5] = (value % 256) as u8;
+    room[at] = a.number;
+    room[at + 1] = a.fresh;
 }
