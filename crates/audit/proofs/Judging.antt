@@ -4,36 +4,21 @@ use mathlib.Core.Bool.{Bool, true, false, cond, _&&_}
 use mathlib.Core.List.{List, []}
 use Prim.Native.Nat.{ℕ}
 use native.Mathlib.Omega.{arith}
-use lib.Dec.{eqb}
-use lib.ListN.{length, getD, replicate}
-use borrow.Author.Tests.{eq-eqb}
+use lib.ListN.{getD, replicate}
 use Rattle.meaning.specs.Lent.{Nodes, walkRecord, Lent, size, isFree, freeNodes}
-use Rattle.meaning.specs.WellFormed.{SizesFit, WellFormed}
+use Rattle.meaning.specs.WellFormed.{WellFormed}
 use Rattle.audit_model.specs.Made.{kindsOf, walkVersion, lentOf}
 use Rattle.audit_model.specs.Descent.{answer}
 use Rattle.audit_model.specs.Records.{allTo}
 use Rattle.audit_model.specs.Tallies.{raiseTo, rootsTally, nodesTally}
-use Rattle.audit_model.specs.Audit.{versionCount, walkCount, Blank, lengthsOk, sizesOk, versionOf, versionsOk, walksOk, recordsOk, orderOk, tallies, nodeOk, nodesOk, restOk}
-use Rattle.audit_model.proofs.Tests.{true≢false, both-true, true-both}
+use Rattle.audit_model.specs.Audit.{versionCount, walkCount, Blank, versionOf, versionsOk, walksOk, recordsOk, orderOk, tallies, nodeOk, nodesOk, restOk}
+use Rattle.audit_model.proofs.Tests.{true≢false}
 use Rattle.audit_model.proofs.Decides.{rest-sound, rest-complete}
-use Rattle.audit_model.proofs.Sizes.{sizes-fit, fit-sizes, blank-zeros}
+use Rattle.audit_model.proofs.Sizes.{lengths, lengths-unfit, blank-zeros}
 use Rattle.audit_tally.specs.Under.{Under}
 use Rattle.audit.specs.Audited.{Judged, Ready, Small}
 
 -- ---- lengths
-
-abbrev lengths : Lent → Bool
-lengths s =
-    lengthsOk (size s) (length (s .nodes .used)) (length (s .nodes .cells)) (length (s .counts)) (length (s .order))
-    (length (s .walks .numbers)) (length (s .walks .nodes)) (length (s .walks .indices))
-
-sized : (s : Lent) → lengths s ≡ true → eqb (length (s .versions)) versionCount ≡ true → sizesOk s ≡ true
-unfolding sizesOk
-sized s p q = true-both _ _ p q
-
-unsized : (s : Lent) → sizesOk s ≡ true → lengths s ≡ true
-unfolding sizesOk
-unsized s p = both-true (lengths s) (eqb (length (s .versions)) versionCount) p .0
 
 refused : (s : Lent) (w : Bool) (f : ℕ) → (WellFormed s → ⊥) → (w ≡ false) × (f ≡ 0) → Judged s w f
 refused s w f ill j = record {
@@ -45,12 +30,8 @@ compared : (s : Lent) (codes t : List ℕ) (r : Bool) → r ≡ allTo (size s) (
 unfolding nodesOk
 compared s codes t r e = sym e
 
--- the sizes fit if the lengths do: the table has its 64 records
-pub lengths-fit : (s : Lent) (o : Bool) → o ≡ lengths s → o ≡ true → length (s .versions) ≡ versionCount → SizesFit s
-lengths-fit s o p e v = sizes-fit s (sized s (sym p ∙ e) (eq-eqb _ _ v))
-
 pub by-lengths : (s : Lent) (o w : Bool) (f : ℕ) → o ≡ lengths s → o ≡ false → (w ≡ false) × (f ≡ 0) → Judged s w f
-by-lengths s o w f p e j = refused s w f (λ W. true≢false (sym (unsized s (fit-sizes s (W .sizes))) ∙ (sym p ∙ e))) j
+by-lengths s o w f p e j = refused s w f (λ W. lengths-unfit s o p e (W .sizes)) j
 
 -- ---- after the sizes
 

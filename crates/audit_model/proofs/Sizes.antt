@@ -1,18 +1,19 @@
 -- The sizes by one test; with them, the whole.
-use mathlib.Core.Path.{_≡_}
+use mathlib.Core.Path.{_≡_, sym, _∙_}
 use mathlib.Core.Logic.{_↔_}
-use mathlib.Core.Bool.{true}
+use mathlib.Core.Bool.{Bool, true, false}
 use mathlib.Core.List.{List}
 use Prim.Native.Nat.{ℕ, _≤_}
 use native.Mathlib.Omega.{arith}
-use lib.ListN.{replicate, length-replicate}
+use lib.Dec.{eqb}
+use lib.ListN.{length, replicate, length-replicate}
 use borrow.Author.Tests.{eqb-true, leb-true, eq-eqb, le-leb}
 use Rattle.meaning.specs.Limits.{walkNumbers}
 use Rattle.meaning.specs.Lent.{Lent, size}
 use Rattle.meaning.specs.WellFormed.{SizesFit, WellFormed}
 use Rattle.meaning.proofs.Lists.{replicate-at}
-use Rattle.audit_model.specs.Audit.{Blank, lengthsOk, sizesOk, restOk, auditOk}
-use Rattle.audit_model.proofs.Tests.{both-true, true-both}
+use Rattle.audit_model.specs.Audit.{versionCount, Blank, lengthsOk, sizesOk, restOk, auditOk}
+use Rattle.audit_model.proofs.Tests.{true≢false, both-true, true-both}
 use Rattle.audit_model.proofs.Decides.{rest-sound, rest-complete}
 
 pub sizes-fit : (s : Lent) → sizesOk s ≡ true → SizesFit s
@@ -49,6 +50,23 @@ fit-sizes s f =
     (le-leb _ _ (f .least)) (eq-eqb _ _ (f .used))) (eq-eqb _ _ (f .cells))) (eq-eqb _ _ (f .counts))) (eq-eqb _ _ (f .order)))
     (eq-eqb _ _ (f .walkNumbers))) (eq-eqb _ _ (f .walkNodes))) (eq-eqb _ _ (f .walkIndices))))
     (eq-eqb _ _ (f .versions))
+
+-- ---- all lengths but the table's, which has its 64 records
+
+abbrev pub lengths : Lent → Bool
+lengths s =
+    lengthsOk (size s) (length (s .nodes .used)) (length (s .nodes .cells)) (length (s .counts)) (length (s .order))
+    (length (s .walks .numbers)) (length (s .walks .nodes)) (length (s .walks .indices))
+
+pub lengths-fit : (s : Lent) (o : Bool) → o ≡ lengths s → o ≡ true → length (s .versions) ≡ versionCount → SizesFit s
+unfolding sizesOk
+lengths-fit s o p e v = sizes-fit s (true-both (lengths s) (eqb (length (s .versions)) versionCount) (sym p ∙ e) (eq-eqb _ _ v))
+
+pub lengths-unfit : (s : Lent) (o : Bool) → o ≡ lengths s → o ≡ false → SizesFit s → ⊥
+unfolding sizesOk
+lengths-unfit s o p e f = true≢false (sym (both-true (lengths s) (eqb (length (s .versions)) versionCount) (fit-sizes s f) .0) ∙ (sym p ∙ e))
+
+-- ---- the audit
 
 -- zeros are blank
 pub blank-zeros : (n k : ℕ) → k ≤ n → Blank k (replicate n 0)

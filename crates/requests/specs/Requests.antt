@@ -1,4 +1,7 @@
--- The frames and answers of the code as those of the meaning.
+-- The frames and answers of the code as those of the meaning, and bytes put into room.
+use mathlib.Core.List.{List, _++_}
+use Prim.Native.Nat.{ℕ, _+_}
+use lib.ListN.{length, take, drop}
 use Rattle.meaning.specs.Frames as meaning
 use Rattle.requests.specs.declared.Frame.{Frame}
 use Rattle.requests.specs.declared.Answer.{Answer}
@@ -8,3 +11,7 @@ frameOf f = record { party = f .party; operation = f .operation; slot = f .slot;
 
 abbrev pub answerOf : Answer → meaning.Answer
 answerOf a = record { number = a .number; fresh = a .fresh; value = a .value }
+
+-- bytes from a place on, and all else as it was
+unfoldable pub put : (room : List ℕ) → (at : ℕ) → (bytes : List ℕ) → List ℕ
+put room at bytes = take at room ++ (bytes ++ drop (at + length bytes) room)

@@ -4,8 +4,9 @@ use lib.ListN.{length-map}
 use borrow.Author.Tests.{not-true, not-false}
 use borrow.Author.Needs.{needs}
 use Rattle.records.specs.Records.{recordOf}
+use Rattle.audit_model.proofs.Sizes.{lengths-fit}
 use Rattle.audit.specs.Audited.{lentOf}
-use Rattle.audit.proofs.Judging.{lengths-fit, by-lengths}
+use Rattle.audit.proofs.Judging.{by-lengths}
 use Rattle.audit.proofs.audit.Statement.{statement}
 use Rattle.audit.proofs.audit.Tie as tie
 

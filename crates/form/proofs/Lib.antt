@@ -1,0 +1,3 @@
+-- The loops, and what forming gives.
+pub mod Filling
+pub mod Forming
