@@ -87,56 +87,56 @@ module _ (r : Run) (f : Frame) (k : Runs r) (below : taker f < parties) where
   new-does p =
       let both : leb 1 (f .index) && leb (f .index) maxBits ≡ true = not-false _ (p .bits) in
       let legal : LegalBits (f .index) = record { least = leb-true 1 (f .index) (and-first (leb 1 (f .index)) (leb (f .index) maxBits) both); most = leb-true (f .index) maxBits (and-second (leb 1 (f .index)) (leb (f .index) maxBits) both) } in
-      fills-does r f k below (filled-within new r f k p refl) (filled-vacant new r f k p refl) (newCost .fresh) 0 [] (newEdit (r .store) (f .index))
-      (new-edits (r .store) (f .index) 0 legal (kept-stocks (k .kept) (newCost .fresh + 0) (omega (arith, charge-met new r f k p))))
+      fills-does r f k below (filled-within new r f k (p .entered) refl) (filled-vacant new r f k (p .entered) refl) (newCost .fresh) 0 [] (newEdit (r .store) (f .index))
+      (new-edits (r .store) (f .index) 0 legal (kept-stocks (k .kept) (newCost .fresh + 0) (omega (arith, charge-met new r f p))))
       new refl refl refl
 
   pub clone-does : Passed clone f (seenIn r f) → Does clone r f
   unfolding uses anyone done effect cost plain shareEdit
   clone-does p =
-      let live = source-live clone r f k p refl in
-      fills-does r f k below (filled-within clone r f k p refl) (filled-vacant clone r f k p refl) 0 0 _ (shareEdit (r .store) (sourceIn r f))
+      let live = source-live clone r f k (p .entered) refl in
+      fills-does r f k below (filled-within clone r f k (p .entered) refl) (filled-vacant clone r f k (p .entered) refl) 0 0 _ (shareEdit (r .store) (sourceIn r f))
       (share-edits (r .store) (sourceIn r f) 0 live (kept-stocks (k .kept) 0 (omega arith)))
-      clone refl (rw (source-is clone r f k p refl)) refl
+      clone refl (rw (source-is clone r f k (p .entered) refl)) refl
 
   pub hand-over-does : Passed hand-over f (seenIn r f) → Does hand-over r f
   unfolding uses hostAlone done effect cost plain shareEdit
   hand-over-does p =
-      let live = source-live hand-over r f k p refl in
-      fills-does r f k below (filled-within hand-over r f k p refl) (filled-vacant hand-over r f k p refl) 0 0 _ (shareEdit (r .store) (sourceIn r f))
+      let live = source-live hand-over r f k (p .entered) refl in
+      fills-does r f k below (filled-within hand-over r f k (p .entered) refl) (filled-vacant hand-over r f k (p .entered) refl) 0 0 _ (shareEdit (r .store) (sourceIn r f))
       (share-edits (r .store) (sourceIn r f) 0 live (kept-stocks (k .kept) 0 (omega arith)))
-      hand-over refl (rw (source-is hand-over r f k p refl)) refl
+      hand-over refl (rw (source-is hand-over r f k (p .entered) refl)) refl
 
   pub set-does : Passed set-at f (seenIn r f) → Does set-at r f
   unfolding uses anyone done effect cost chargeOf setCost plain setEdit isNothing seenIn
   set-does p =
       let v : VersionRecord = sourceIn r f in
-      let live = source-live set-at r f k p refl in
-      fills-does r f k below (filled-within set-at r f k p refl) (filled-vacant set-at r f k p refl) (setCost (v .bits) (v .length) .fresh) 0
+      let live = source-live set-at r f k (p .entered) refl in
+      fills-does r f k below (filled-within set-at r f k (p .entered) refl) (filled-vacant set-at r f k (p .entered) refl) (setCost (v .bits) (v .length) .fresh) 0
       (set (contents (r .store .nodes) v) (f .index) (f .value)) (setEdit (r .store) v (f .index) (f .value))
-      (set-edits (r .store) v (f .index) (f .value) 0 live (kept-stocks (k .kept) (setCost (v .bits) (v .length) .fresh + 0) (omega (arith, charge-met set-at r f k p)))
+      (set-edits (r .store) v (f .index) (f .value) 0 live (kept-stocks (k .kept) (setCost (v .bits) (v .length) .fresh + 0) (omega (arith, charge-met set-at r f p)))
       (leb-false (v .length) (f .index) (p .there)))
-      set-at refl (rw (source-is set-at r f k p refl)) (rw (source-is set-at r f k p refl, contents-length (r .store .nodes) v))
+      set-at refl (rw (source-is set-at r f k (p .entered) refl)) (rw (source-is set-at r f k (p .entered) refl, contents-length (r .store .nodes) v))
 
   pub push-does : Passed push-back f (seenIn r f) → Does push-back r f
   unfolding uses anyone done effect cost chargeOf pushCost plain pushEdit isFullOf seenIn
   push-does p =
       let v : VersionRecord = sourceIn r f in
-      let live = source-live push-back r f k p refl in
-      fills-does r f k below (filled-within push-back r f k p refl) (filled-vacant push-back r f k p refl) (pushCost (v .bits) (v .length) .fresh) 0
+      let live = source-live push-back r f k (p .entered) refl in
+      fills-does r f k below (filled-within push-back r f k (p .entered) refl) (filled-vacant push-back r f k (p .entered) refl) (pushCost (v .bits) (v .length) .fresh) 0
       (contents (r .store .nodes) v ++ (f .value ∷ [])) (pushEdit (r .store) v (f .value))
-      (push-edits (r .store) v (f .value) 0 live (kept-stocks (k .kept) (pushCost (v .bits) (v .length) .fresh + 0) (omega (arith, charge-met push-back r f k p)))
+      (push-edits (r .store) v (f .value) 0 live (kept-stocks (k .kept) (pushCost (v .bits) (v .length) .fresh + 0) (omega (arith, charge-met push-back r f p)))
       (leb-false maxLength (v .length) (p .room)))
-      push-back refl (rw (source-is push-back r f k p refl)) (rw (source-is push-back r f k p refl, contents-length (r .store .nodes) v))
+      push-back refl (rw (source-is push-back r f k (p .entered) refl)) (rw (source-is push-back r f k (p .entered) refl, contents-length (r .store .nodes) v))
 
   pub drop-does : Passed drop-last f (seenIn r f) → Does drop-last r f
   unfolding uses anyone done effect cost chargeOf dropCost dropEdit withoutLast isNothing seenIn
   drop-does p =
       let v : VersionRecord = sourceIn r f in
-      let live = source-live drop-last r f k p refl in
+      let live = source-live drop-last r f k (p .entered) refl in
       let some : v .length ≢ 0 = eqb-false (v .length) 0 (p .there) in
-      fills-does r f k below (filled-within drop-last r f k p refl) (filled-vacant drop-last r f k p refl) (dropCost (v .bits) (v .length) .fresh) 0
+      fills-does r f k below (filled-within drop-last r f k (p .entered) refl) (filled-vacant drop-last r f k (p .entered) refl) (dropCost (v .bits) (v .length) .fresh) 0
       (take (v .length - 1) (contents (r .store .nodes) v)) (dropEdit (r .store) v)
       (drop-edits (r .store) v 0 live
-      (kept-stocks (k .kept) (dropCost (v .bits) (v .length) .fresh + 0) (omega (arith, charge-met drop-last r f k p, drop-le (v .bits) (v .length)))) (omega arith))
-      drop-last refl (rw (source-is drop-last r f k p refl, contents-length (r .store .nodes) v)) (rw (source-is drop-last r f k p refl, contents-length (r .store .nodes) v))
+      (kept-stocks (k .kept) (dropCost (v .bits) (v .length) .fresh + 0) (omega (arith, charge-met drop-last r f p, drop-le (v .bits) (v .length)))) (omega arith))
+      drop-last refl (rw (source-is drop-last r f k (p .entered) refl, contents-length (r .store .nodes) v)) (rw (source-is drop-last r f k (p .entered) refl, contents-length (r .store .nodes) v))

@@ -51,20 +51,20 @@ module _ (r : Run) (f : Frame) (k : Runs r) where
 
   pub len-does : Passed len f (seenIn r f) → Does len r f
   unfolding uses anyone done effect cost plain
-  len-does p = reads len (sourceIn r f .length) refl (rw (source-is len r f k p refl, contents-length (r .store .nodes) (sourceIn r f))) refl
+  len-does p = reads len (sourceIn r f .length) refl (rw (source-is len r f k (p .entered) refl, contents-length (r .store .nodes) (sourceIn r f))) refl
 
   pub get-does : Passed get f (seenIn r f) → Does get r f
   unfolding uses anyone done effect cost plain isNothing seenIn
   get-does p =
       let v : VersionRecord = sourceIn r f in
-      reads get (itemAt r v (f .index)) refl (rw (source-is get r f k p refl, item-is v (f .index) (leb-false (v .length) (f .index) (p .there)))) refl
+      reads get (itemAt r v (f .index)) refl (rw (source-is get r f k (p .entered) refl, item-is v (f .index) (leb-false (v .length) (f .index) (p .there)))) refl
 
   pub first-does : Passed first f (seenIn r f) → Does first r f
   unfolding uses anyone done effect cost plain isNothing seenIn firstItem
   first-does p =
       let v : VersionRecord = sourceIn r f in
       let some : v .length ≢ 0 = eqb-false (v .length) 0 (p .there) in
-      reads first (itemAt r v 0) refl (rw (source-is first r f k p refl, item-is v 0 (omega arith))) refl
+      reads first (itemAt r v 0) refl (rw (source-is first r f k (p .entered) refl, item-is v 0 (omega arith))) refl
 
   pub last-does : Passed last f (seenIn r f) → Does last r f
   unfolding uses anyone done effect cost plain isNothing seenIn lastItem
@@ -72,14 +72,14 @@ module _ (r : Run) (f : Frame) (k : Runs r) where
       let v : VersionRecord = sourceIn r f in
       let some : v .length ≢ 0 = eqb-false (v .length) 0 (p .there) in
       reads last (itemAt r v (v .length - 1)) refl
-      (rw (source-is last r f k p refl, contents-length (r .store .nodes) v, item-is v (v .length - 1) (omega arith))) refl
+      (rw (source-is last r f k (p .entered) refl, contents-length (r .store .nodes) v, item-is v (v .length - 1) (omega arith))) refl
 
   pub compare-does : Passed compare f (seenIn r f) → Does compare r f
   unfolding uses anyone done effect cost plain
   compare-does p =
       let other : version (slotAt (takerIn r f) (f .destination)) ≡ record { bits = targetIn r f .bits; items = contents (r .store .nodes) (targetIn r f) } =
-      rw (slot-seen r (taker f) (f .destination)) (version-seen (r .store .nodes) (targetIn r f) (other-lives compare r f k p refl)) in
-      reads compare _ refl (rw (source-is compare r f k p refl, other)) refl
+      rw (slot-seen r (taker f) (f .destination)) (version-seen (r .store .nodes) (targetIn r f) (other-lives compare r f k (p .entered) refl)) in
+      reads compare _ refl (rw (source-is compare r f k (p .entered) refl, other)) refl
 
   pub free-nodes-does : Does free-nodes r f
   unfolding done effect cost plain freeOf

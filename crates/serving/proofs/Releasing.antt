@@ -49,8 +49,8 @@ module _ (r : Run) (f : Frame) (k : Runs r) (below : taker f < parties) (own : g
   pub release-does : Passed release f (seenIn r f) → Does release r f
   unfolding uses anyone done effect cost plain
   release-does p =
-      let within = source-within release r f k p refl in
-      let lives = source-lives release r f k p refl in
+      let within = source-within release r f k (p .entered) refl in
+      let lives = source-lives release r f k (p .entered) refl in
       record {
         runs = empties-runs r f k below own within lives;
         table = empties-table r f k below own within lives;

@@ -35,7 +35,7 @@ unfolding uses anyone ownerOr
 does r f k p = by (opOf f) refl p
   where
     below : taker f < parties
-    below = taker-below f (seenIn r f) p
+    below = taker-below f (seenIn r f .standing) (p .entered)
 
     by : (o : Op) → opOf f ≡ o → Passed o f (seenIn r f) → Does o r f
     by new e q = new-does r f k below q

@@ -15,17 +15,17 @@ use Rattle.frames.specs.Run.{Run, sourceIn, targetIn, walkedIn, openedIn}
 use Rattle.frames.specs.Charges.{chargeOf}
 use Rattle.frames.specs.Seen.{seenIn, isOut, isMissing, isOtherMissing, isTaken}
 use Rattle.serving.specs.States.{Runs}
-use Rattle.serving.specs.Passed.{Passed}
+use Rattle.serving.specs.Passed.{Entered, Passed}
 use Rattle.serving.specs.Does.{versionFor}
 use Rattle.serving.proofs.Seeing.{slot-seen, version-legal, walk-legal, version-seen, live-is, open-is, closed-is}
 use Rattle.serving.proofs.Passing.{slot-range, destination-range, slot-present, other-present}
 
-module _ (o : Op) (r : Run) (f : Frame) (k : Runs r) (p : Passed o f (seenIn r f)) where
-  -- the charge is there
-  pub charge-met : chargeOf o (sourceIn r f .bits) (sourceIn r f .length) ≤ r .store .free
-  unfolding seenIn
-  charge-met = ltb-false (r .store .free) _ (p .nodes)
+-- the charge is there
+pub charge-met : (o : Op) (r : Run) (f : Frame) → Passed o f (seenIn r f) → chargeOf o (sourceIn r f .bits) (sourceIn r f .length) ≤ r .store .free
+unfolding seenIn
+charge-met o r f p = ltb-false (r .store .free) _ (p .nodes)
 
+module _ (o : Op) (r : Run) (f : Frame) (k : Runs r) (p : Entered o f (seenIn r f .standing)) where
   -- ---- a source
 
   pub source-within : uses o .slot ≡ source → f .slot < partySlots

@@ -40,13 +40,13 @@ module _ (r : Run) (f : Frame) (k : Runs r) (below : taker f < parties) where
   pub open-does : Passed open-walk f (seenIn r f) → Does open-walk r f
   unfolding uses anyone done effect cost plain opens freshIn
   open-does p =
-      let within = opened-within open-walk r f k p refl in
-      let live = source-live open-walk r f k p refl in
+      let within = opened-within open-walk r f k (p .entered) refl in
+      let live = source-live open-walk r f k (p .entered) refl in
       let vacant : walkRecord (r .walks) (walkPlace (taker f) (f .destination)) ≡ closedRecord =
-      sym (walk-here r (taker f) (f .destination) below within) ∙ opened-closed open-walk r f k p refl in
+      sym (walk-here r (taker f) (f .destination) below within) ∙ opened-closed open-walk r f k (p .entered) refl in
       record {
         runs = opened-runs (r .store) (r .versions) (r .walks) k (walkPlace (taker f) (f .destination)) (omega arith) vacant (sourceIn r f) live;
-        table = rw (source-is open-walk r f k p refl) (opened-table (r .store) (r .versions) (r .walks) k (taker f) (f .destination) below within vacant (sourceIn r f) live);
+        table = rw (source-is open-walk r f k (p .entered) refl) (opened-table (r .store) (r .versions) (r .walks) k (taker f) (f .destination) below within vacant (sourceIn r f) live);
         value = refl;
         fresh = omega arith;
         falls = λ _ _. omega arith;
@@ -61,9 +61,9 @@ module _ (r : Run) (f : Frame) (k : Runs r) (below : taker f < parties) (own : g
   pub close-does : Passed close-walk f (seenIn r f) → Does close-walk r f
   unfolding uses anyone done effect cost plain closes freshIn
   close-does p =
-      let within = walked-within close-walk r f k p refl in
+      let within = walked-within close-walk r f k (p .entered) refl in
       let here = close-here within in
-      let lives : walkRecord (r .walks) (walkPlace (taker f) (f .slot)) .version .live ≡ 1 = rw here at (walked-open close-walk r f k p refl .version .live) in
+      let lives : walkRecord (r .walks) (walkPlace (taker f) (f .slot)) .version .live ≡ 1 = rw here at (walked-open close-walk r f k (p .entered) refl .version .live) in
       record {
         runs = rw (here, own) (closed-runs (r .store) (r .versions) (r .walks) k (walkPlace (taker f) (f .slot)) (omega arith) lives);
         table = rw (here, own) (closed-table (r .store) (r .versions) (r .walks) k (taker f) (f .slot) below within lives);
@@ -129,8 +129,8 @@ module _ (r : Run) (f : Frame) (k : Runs r) (below : taker f < parties) (own : g
   pub next-does : Passed next f (seenIn r f) → Does next r f
   unfolding uses anyone done effect cost plain isNothing seenIn
   next-does p =
-      let within = walked-within next r f k p refl in
-      let opened = walked-open next r f k p refl in
+      let within = walked-within next r f k (p .entered) refl in
+      let opened = walked-open next r f k (p .entered) refl in
       let at = walk-at r f k below own within opened (p .there) in
       let took = next-takes (r .store .nodes) (r .walks) (walkPlace (taker f) (f .slot)) (slices-fit k) (omega arith) (rw at at opened) (leftFor r f)
       (left-taking r f k below own within opened (p .there)) (some-left r f k below own within opened (p .there)) in
@@ -139,8 +139,8 @@ module _ (r : Run) (f : Frame) (k : Runs r) (below : taker f < parties) (own : g
   pub next-back-does : Passed next-back f (seenIn r f) → Does next-back r f
   unfolding uses anyone done effect cost plain isNothing seenIn
   next-back-does p =
-      let within = walked-within next-back r f k p refl in
-      let opened = walked-open next-back r f k p refl in
+      let within = walked-within next-back r f k (p .entered) refl in
+      let opened = walked-open next-back r f k (p .entered) refl in
       let at = walk-at r f k below own within opened (p .there) in
       let took = next-back-takes (r .store .nodes) (r .walks) (walkPlace (taker f) (f .slot)) (slices-fit k) (omega arith) (rw at at opened) (leftFor r f)
       (left-taking r f k below own within opened (p .there)) (some-left r f k below own within opened (p .there)) in
