@@ -1,3 +1,4 @@
+use denote.Ref.{now}
 use Rattle.turns.proofs.Turning.{walk-inside, walk-opens}
 use borrow.Author.Needs.{needs}
 use Rattle.turns.proofs.is_open.Statement.{statement}
@@ -29,7 +30,7 @@ element-copy-out-result c = walk-inside _ _ (c .if1 .taken)
 
 -- src/lib.rt:72:9
 returns : tie.Need-returns
-returns c = walk-opens _ _ _ (c .before .if1 .taken)
+returns c = walk-opens (now (c .before .before .args .numbers)) (c .before .before .args .party) (c .before .before .args .walk) (c .before .if1 .taken)
 
 -- src/lib.rt:66:1
 returns-2 : tie.Need-returns-2
