@@ -1,0 +1,6 @@
+-- What is proved of lines: by piece, by mark, and what the program makes of them.
+pub mod Pieces
+pub mod Marks
+pub mod Talking
+pub mod Digits
+pub mod Pairs
