@@ -1,20 +1,17 @@
 -- Digits one by one and in a row, and what a turn of the loops over them does.
-use mathlib.Core.Path.{_≡_, refl, sym, ap, ap₂, _∙_}
+use mathlib.Core.Path.{_≡_, refl, sym, ap, _∙_}
 use mathlib.Core.Logic.{_⊎_, inl, inr, ⊎-elim}
-use mathlib.Core.Bool.{Bool, true, false, cond, _&&_, _||_, and-true, and-assoc}
-use mathlib.Core.List.{List, [], _∷_, _++_, append-assoc}
-use Prim.Native.Nat.{ℕ, zero, suc, _+_, _-_, _*_, _/_, _%_, _≤_, _<_}
-use native.Mathlib.Nat.{lt-irrefl, mul-suc, le-antisymm}
+use mathlib.Core.Bool.{Bool, true, false, _&&_, _||_, and-true, and-assoc}
+use mathlib.Core.List.{List, [], _∷_, _++_}
+use Prim.Native.Nat.{ℕ, zero, suc, _+_, _-_, _≤_, _<_}
+use native.Mathlib.Nat.{lt-irrefl}
 use native.Mathlib.Numerals.{add-one}
 use native.Mathlib.Omega.{arith}
-use lib.Dec.{leb, ltb}
-use lib.ListN.{length, getD, take, set, length-append, List·getD-append}
-use lib.Seq.{take-suc, take-all, take-length, paste, paste-suc, getD-at}
-use borrow.Author.Tests.{leb-true, le-leb, lt-leb, lt-ltb, le-ltb}
-use Rattle.meaning.specs.Limits.{frameSize, answerSize}
-use Rattle.meaning.specs.Program.{lineFeed, isDigit, digitValue, digitByte, allDigits, fromHex, toHex}
-use Rattle.lines.specs.Lines.{lineSize}
-use Rattle.lines.specs.Printing.{printedSize, printedAnswer}
+use lib.Dec.{leb, eqb}
+use lib.ListN.{length, getD, take}
+use lib.Seq.{take-suc, take-all}
+use borrow.Author.Tests.{leb-true, le-leb, lt-leb, lt-ltb, le-ltb, ne-eqb}
+use Rattle.meaning.specs.Program.{lineFeed, isDigit, digitValue, digitByte, allDigits}
 
 -- ---- one digit
 
@@ -48,6 +45,9 @@ module _ (b : ℕ) (e : isDigit b ≡ true) where
   unfolding digitValue
   letter-value l = (rw (lt-leb b 57 l), omega (arith, letter-digit l .1))
 
+pub digit-feed : (b : ℕ) → isDigit b ≡ true → eqb b lineFeed ≡ false
+digit-feed b e = ne-eqb b lineFeed (λ f. ⊎-elim (λ h. lt-irrefl 0 (omega (arith, h .0))) (λ h. lt-irrefl 0 (omega (arith, h .0))) (ranges b e))
+
 pub number-byte : (v : ℕ) → v < 10 → v + 48 ≡ digitByte v
 unfolding digitByte
 number-byte v l = rw (lt-ltb v 10 l)
@@ -73,16 +73,15 @@ all-next text i all digit l p q = rw (p, q, add-one, take-suc text i 0 l) (sym (
 pub all-ends : (text : List ℕ) (i : ℕ) (all : Bool) → all ≡ allDigits (take i text) → length text ≤ i → all ≡ allDigits text
 all-ends text i all p l = p ∙ ap allDigits (take-all i text l)
 
-pub all-at : (text : List ℕ) (i : ℕ) → allDigits text ≡ true → i < length text → isDigit (getD text i 0) ≡ true
+both : (p q : Bool) → (p && q) ≡ true → (p ≡ true) × (q ≡ true)
+both true q e = (refl, e)
+both false q e = (e, cc)
+
+pub all-cons : (b : ℕ) (bs : List ℕ) → allDigits (b ∷ bs) ≡ true → (isDigit b ≡ true) × (allDigits bs ≡ true)
 unfolding allDigits
+all-cons b bs e = both (isDigit b) (allDigits bs) e
+
+pub all-at : (text : List ℕ) (i : ℕ) → allDigits text ≡ true → i < length text → isDigit (getD text i 0) ≡ true
 all-at [] i e l = absurd (lt-irrefl 0 (omega arith))
-all-at (b ∷ bs) zero e l = both (isDigit b) (allDigits bs) e .0
-  where
-    both : (p q : Bool) → (p && q) ≡ true → (p ≡ true) × (q ≡ true)
-    both true q e = (refl, e)
-    both false q e = (e, cc)
-all-at (b ∷ bs) (suc i) e l = all-at bs i (rest (isDigit b) (allDigits bs) e) (omega arith)
-  where
-    rest : (p q : Bool) → (p && q) ≡ true → q ≡ true
-    rest true q e = e
-    rest false q e = cc
+all-at (b ∷ bs) zero e l = all-cons b bs e .0
+all-at (b ∷ bs) (suc i) e l = all-at bs i (all-cons b bs e .1) (omega arith)

@@ -1,12 +1,11 @@
 -- Two digits a byte: their places, and what a turn of the loops that read and print them does.
 use mathlib.Core.Path.{_≡_, refl, sym, ap, ap₂, _∙_}
-use mathlib.Core.Bool.{Bool, true, false, cond}
-use mathlib.Core.List.{List, [], _∷_, _++_, append-assoc}
-use Prim.Native.Nat.{ℕ, zero, suc, _+_, _-_, _*_, _/_, _%_, _≤_, _<_}
+use mathlib.Core.List.{List, [], _∷_}
+use Prim.Native.Nat.{ℕ, zero, suc, _+_, _*_, _/_, _%_, _≤_, _<_}
 use native.Mathlib.Nat.{lt-irrefl, mul-suc, le-antisymm}
 use native.Mathlib.Numerals.{add-one}
 use native.Mathlib.Omega.{arith}
-use lib.ListN.{length, getD, take, set, length-append, List·getD-append}
+use lib.ListN.{length, getD, set, length-append, List·getD-append}
 use lib.Seq.{paste, paste-suc, paste-zero, length-paste, getD-at}
 use Rattle.meaning.specs.Limits.{frameSize, answerSize}
 use Rattle.meaning.specs.Program.{lineFeed, digitValue, digitByte, fromHex, toHex}
@@ -75,13 +74,13 @@ shown-low i [] l = absurd (lt-irrefl 0 (omega arith))
 shown-low zero (b ∷ bytes) l = refl
 shown-low (suc i) (b ∷ bytes) l = rw twice-suc (shown-low i bytes (omega arith))
 
+pub row-length : (answer : List ℕ) → length answer ≡ answerSize → length (printedAnswer answer) ≡ printedSize
+unfolding printedAnswer
+row-length answer e = simp length-append (omega (arith, shown-length answer))
+
 module _ (answer out₀ : List ℕ) (at : ℕ) (e : length answer ≡ answerSize) (r : at + printedSize ≤ length out₀) where
   abbrev row : List ℕ
   row = printedAnswer answer
-
-  pub row-length : length row ≡ printedSize
-  unfolding printedAnswer
-  row-length = simp length-append (omega (arith, shown-length answer))
 
   row-digit : (k : ℕ) → k < 2 * answerSize → getD row k 0 ≡ getD (toHex answer) k 0
   unfolding printedAnswer
@@ -95,7 +94,7 @@ module _ (answer out₀ : List ℕ) (at : ℕ) (e : length answer ≡ answerSize
   show-start = paste-zero out₀ at row
 
   pub show-same : (out : List ℕ) (i : ℕ) → i ≤ answerSize → out ≡ paste out₀ at row (2 * i) → length out ≡ length out₀
-  show-same out i l p = ap length p ∙ length-paste out₀ at row (2 * i) (omega arith) (omega (arith, row-length))
+  show-same out i l p = ap length p ∙ length-paste out₀ at row (2 * i) (omega arith) (omega (arith, row-length answer e))
 
   pub show-next : (out : List ℕ) (i high low : ℕ) → i < answerSize → out ≡ paste out₀ at row (2 * i)
       → high ≡ digitByte (getD answer i 0 / 16) → low ≡ digitByte (getD answer i 0 % 16)
@@ -104,11 +103,11 @@ module _ (answer out₀ : List ℕ) (at : ℕ) (e : length answer ≡ answerSize
       let h : high ≡ getD row (2 * i) 0 = q ∙ sym (row-digit (2 * i) (omega arith) ∙ shown-high i answer (omega arith)) in
       let w : low ≡ getD row (suc (2 * i)) 0 = s ∙ sym (row-digit (suc (2 * i)) (omega arith) ∙ shown-low i answer (omega arith)) in
       let j : at + 2 * i + 1 ≡ at + suc (2 * i) = omega arith in
-      rw (p, h, w, j, add-one, twice-suc i, paste-suc out₀ at row (2 * i) 0 (omega arith) (omega (arith, row-length)))
-      (paste-suc out₀ at row (suc (2 * i)) 0 (omega arith) (omega (arith, row-length)))
+      rw (p, h, w, j, add-one, twice-suc i, paste-suc out₀ at row (2 * i) 0 (omega arith) (omega (arith, row-length answer e)))
+      (paste-suc out₀ at row (suc (2 * i)) 0 (omega arith) (omega (arith, row-length answer e)))
 
   pub show-end : (out : List ℕ) (i : ℕ) → answerSize ≤ i → i ≤ answerSize → out ≡ paste out₀ at row (2 * i) → set out (at + 2 * answerSize) lineFeed ≡ paste out₀ at row printedSize
   show-end out i l g p =
       let k : i ≡ answerSize = le-antisymm g l in
       let p′ : out ≡ paste out₀ at row (2 * answerSize) = rw k at p in
-      rw (p′, ← row-end) (paste-suc out₀ at row (2 * answerSize) 0 (omega arith) (omega (arith, row-length)))
+      rw (p′, ← row-end) (paste-suc out₀ at row (2 * answerSize) 0 (omega arith) (omega (arith, row-length answer e)))

@@ -1,19 +1,14 @@
 -- Lines by pieces: a piece in two parts, a piece and what follows it, the end of the input.
-use mathlib.Core.Path.{_≡_, refl, sym, ap, _∙_}
+use mathlib.Core.Path.{_≡_, refl, ap, _∙_}
 use mathlib.Core.Logic.{_≢_}
-use mathlib.Core.Bool.{Bool, true, false, cond, _&&_}
-use mathlib.Core.List.{List, [], _∷_, _++_, append-assoc}
-use Prim.Native.Nat.{ℕ, zero, suc, _+_, _≤_, _<_, min}
-use native.Mathlib.Nat.{lt-irrefl}
+use mathlib.Core.Bool.{Bool, true, false, cond}
+use mathlib.Core.List.{List, [], _∷_, _++_}
+use Prim.Native.Nat.{ℕ}
 use native.Mathlib.Omega.{arith}
 use lib.Dec.{eqb}
-use lib.ListN.{length, take, length-append, length-take}
-use lib.Seq.{take-all}
 use borrow.Author.Tests.{eq-eqb, ne-eqb}
-use Rattle.meaning.specs.Limits.{frameSize}
-use Rattle.meaning.specs.Frames.{decode}
-use Rattle.meaning.specs.Program.{Line, frame, other, lineFeed, allDigits, fromHex, readLine, linesOf}
-use Rattle.lines.specs.Lines.{lineSize, tooLong, wholeLines, leftOver, Keeps}
+use Rattle.meaning.specs.Program.{Line, other, lineFeed, readLine, linesOf}
+use Rattle.lines.specs.Lines.{wholeLines, leftOver, Keeps}
 
 -- ---- a piece in two parts
 

@@ -2,20 +2,19 @@
 use mathlib.Core.Path.{_≡_, refl, sym, ap, _∙_}
 use mathlib.Core.Bool.{Bool, true, false, cond}
 use mathlib.Core.List.{List, [], _∷_, _++_, append-assoc}
-use Prim.Native.Nat.{ℕ, zero, suc, _+_, _*_, _≤_, _<_}
+use Prim.Native.Nat.{ℕ, suc, _+_}
 use native.Mathlib.Nat.{zero-add, suc-add}
-use native.Mathlib.Omega.{arith}
 use lib.Dec.{eqb}
 use lib.ListN.{length, take, drop}
 use Rattle.meaning.specs.Limits.{frameSize, answerSize, NOT-A-FRAME}
 use Rattle.meaning.specs.Table.{Table}
-use Rattle.meaning.specs.Frames.{Frame, Answer, toBytes, decode, encode}
+use Rattle.meaning.specs.Frames.{Answer, toBytes, decode, encode}
 use Rattle.meaning.specs.Checks.{Supply}
-use Rattle.meaning.specs.Serve.{refused, serve, Call, Reply, run}
+use Rattle.meaning.specs.Serve.{refused, serve, run}
 use Rattle.meaning.specs.Batch.{callsIn, answerBytes}
 use Rattle.meaning.specs.Program.{Line, frame, other, lineFeed, toHex, talk, write}
 use Rattle.lines.specs.Lines.{FRAME, markedLines, framesMarked}
-use Rattle.lines.specs.Printing.{printedAnswer, printedLine, printed}
+use Rattle.lines.specs.Printing.{printedAnswer, printed}
 use Rattle.lines.specs.After.{afterLines, atLines}
 use Rattle.lines.proofs.Marks.{marked-frame, marked-other, counted-frame, counted-other, printed-frame, printed-other}
 

@@ -29,8 +29,9 @@ unfoldable pub leftOver : (begun : List ℕ) → (piece : List ℕ) → List ℕ
 leftOver begun [] = begun
 leftOver begun (b ∷ bs) = cond (eqb b lineFeed) (leftOver [] bs) (leftOver (begun ++ (b ∷ [])) bs)
 
--- what is kept of a line begun: its bytes, unless it is longer than a frame's, and its length
+-- what is kept of a line begun, with room for a frame's digits: its bytes, unless it is longer, and its length
 pub record Keeps (bytes : List ℕ) (len : ℕ) (begun : List ℕ) : Type 0 where
+  pub room : length bytes ≡ lineSize
   pub size : len ≡ min (length begun) tooLong
   pub front : length begun ≤ lineSize → begun ≡ take len bytes
 

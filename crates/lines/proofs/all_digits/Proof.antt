@@ -8,9 +8,6 @@ use Rattle.meaning.specs.Program.{allDigits}
 use Rattle.lines.proofs.Digits.{all-start, all-next, all-ends}
 use Rattle.lines.proofs.all_digits.Statement.{statement}
 use Rattle.lines.proofs.all_digits.Tie as tie
-use Rattle.lines.proofs.all_digits.Reads as reads
-use Rattle.lines.proofs.all_digits.Lts as lts
-use Rattle.lines.proofs.is_digit.Reads as is-digit-reads
 
 abbrev Inv-loop : tie.InvT-loop
 Inv-loop text all₀ i₀ all i = (i ≤ length text) × (all ≡ allDigits (take i text))

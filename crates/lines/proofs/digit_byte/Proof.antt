@@ -3,8 +3,6 @@ use borrow.Author.Needs.{needs}
 use Rattle.lines.proofs.Digits.{number-byte, letter-byte}
 use Rattle.lines.proofs.digit_byte.Statement.{statement}
 use Rattle.lines.proofs.digit_byte.Tie as tie
-use Rattle.lines.proofs.digit_byte.Reads as reads
-use Rattle.lines.proofs.digit_byte.Lts as lts
 
 add-result : tie.Need-add-result
 add-result c = search needs

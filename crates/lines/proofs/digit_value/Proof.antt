@@ -1,6 +1,6 @@
 -- `lines::digit_value` meets its contract.
 use native.Mathlib.Omega.{arith}
-use Rattle.lines.proofs.Digits.{number-digit, letter-digit, number-value, letter-value}
+use Rattle.lines.proofs.Digits.{number-digit, number-value, letter-value}
 use Rattle.lines.proofs.digit_value.Statement.{statement}
 use Rattle.lines.proofs.digit_value.Tie as tie
 

@@ -9,9 +9,6 @@ use Rattle.lines.specs.Printing.{printedAnswer}
 use Rattle.lines.proofs.Pairs.{show-start, show-same, show-next, show-end}
 use Rattle.lines.proofs.print_answer.Statement.{statement}
 use Rattle.lines.proofs.print_answer.Tie as tie
-use Rattle.lines.proofs.print_answer.Reads as reads
-use Rattle.lines.proofs.print_answer.Lts as lts
-use Rattle.lines.proofs.digit_byte.Reads as digit-byte-reads
 
 abbrev Inv-loop : tie.InvT-loop
 Inv-loop answer out₀ at i₀ out i = (i ≤ 6) × (length out ≡ length out₀) × (out ≡ paste out₀ at (printedAnswer answer) (2 * i))

@@ -10,9 +10,6 @@ use Rattle.lines.proofs.Digits.{all-at}
 use Rattle.lines.proofs.Pairs.{put-start, put-same, put-next, put-ends}
 use Rattle.lines.proofs.put_frame.Statement.{statement}
 use Rattle.lines.proofs.put_frame.Tie as tie
-use Rattle.lines.proofs.put_frame.Reads as reads
-use Rattle.lines.proofs.put_frame.Lts as lts
-use Rattle.lines.proofs.digit_value.Reads as digit-value-reads
 
 abbrev Inv-loop : tie.InvT-loop
 Inv-loop text requests₀ at i₀ requests i = (i ≤ 12) × (length requests ≡ length requests₀) × (requests ≡ paste requests₀ at (fromHex text) i)
