@@ -2,8 +2,6 @@
 pub mod Pieces
 pub mod Marks
 pub mod Talking
-pub mod Digits
-pub mod Pairs
 pub mod Turns
 pub mod Steps
 pub mod Printed

@@ -14,8 +14,9 @@ use Rattle.meaning.specs.Serve.{refused}
 use Rattle.meaning.specs.Checks.{Supply}
 use Rattle.meaning.specs.Batch.{callsIn}
 use Rattle.meaning.specs.Program.{Line, frame, other}
+use Rattle.hexadecimal.specs.Text.{printedAnswer}
 use Rattle.lines.specs.Lines.{FRAME, markedLines, framesMarked}
-use Rattle.lines.specs.Printing.{printedAnswer, printedLine, printed}
+use Rattle.lines.specs.Printing.{printedLine, printed}
 
 -- ---- one mark
 

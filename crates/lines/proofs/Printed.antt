@@ -14,10 +14,11 @@ use borrow.Author.Tests.{eq-eqb, ne-eqb}
 use Rattle.meaning.specs.Limits.{answerSize, NOT-A-FRAME}
 use Rattle.meaning.specs.Frames.{toBytes, encode}
 use Rattle.meaning.specs.Serve.{refused}
+use Rattle.hexadecimal.specs.Text.{printedAnswer, printedSize}
 use Rattle.lines.specs.Lines.{FRAME, framesMarked}
-use Rattle.lines.specs.Printing.{printedSize, printedAnswer, printedLine, printed, CanPrintLine, PrintsLine, CanPrint, Prints}
+use Rattle.lines.specs.Printing.{printedLine, printed, CanPrintLine, PrintsLine, CanPrint, Prints}
 use Rattle.lines.proofs.Marks.{counted-append, printed-append}
-use Rattle.lines.proofs.Pairs.{row-length}
+use Rattle.hexadecimal.proofs.Pairs.{row-length}
 
 -- ---- a line
 

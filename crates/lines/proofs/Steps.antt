@@ -14,7 +14,8 @@ use borrow.Author.Tests.{ne-eqb, eq-eqb}
 use Rattle.meaning.specs.Limits.{frameSize}
 use Rattle.meaning.specs.Counting.{bit}
 use Rattle.meaning.specs.Program.{lineFeed, allDigits, fromHex}
-use Rattle.lines.specs.Lines.{lineSize, tooLong, wholeLines, leftOver, Keeps, FRAME, markedLines, framesMarked}
+use Rattle.hexadecimal.specs.Text.{lineSize}
+use Rattle.lines.specs.Lines.{tooLong, wholeLines, leftOver, Keeps, FRAME, markedLines, framesMarked}
 use Rattle.lines.specs.Reading.{HasRoom, EndsLine, FrameAt, Reads, CanRead, Bounded, ReadsOn, ReadsPiece}
 use Rattle.lines.proofs.Turns.{byte-read, feed-read, frame-read}
 

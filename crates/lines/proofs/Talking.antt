@@ -13,8 +13,9 @@ use Rattle.meaning.specs.Checks.{Supply}
 use Rattle.meaning.specs.Serve.{refused, serve, run}
 use Rattle.meaning.specs.Batch.{callsIn, answerBytes}
 use Rattle.meaning.specs.Program.{Line, frame, other, lineFeed, toHex, talk, write}
+use Rattle.hexadecimal.specs.Text.{printedAnswer}
 use Rattle.lines.specs.Lines.{FRAME, markedLines, framesMarked}
-use Rattle.lines.specs.Printing.{printedAnswer, printed}
+use Rattle.lines.specs.Printing.{printed}
 use Rattle.lines.specs.After.{afterLines, atLines}
 use Rattle.lines.proofs.Marks.{marked-frame, marked-other, counted-frame, counted-other, printed-frame, printed-other}
 

@@ -15,12 +15,13 @@ use borrow.Author.Tests.{ne-eqb}
 use Rattle.meaning.specs.Limits.{frameSize}
 use Rattle.meaning.specs.Frames.{decode}
 use Rattle.meaning.specs.Program.{Line, frame, other, lineFeed, isDigit, allDigits, fromHex, readLine}
-use Rattle.lines.specs.Lines.{lineSize, tooLong, wholeLines, leftOver, Keeps, markedLines, framesMarked}
+use Rattle.hexadecimal.specs.Text.{lineSize}
+use Rattle.lines.specs.Lines.{tooLong, wholeLines, leftOver, Keeps, markedLines, framesMarked}
 use Rattle.lines.specs.Reading.{HasRoom, EndsLine, Reads}
 use Rattle.lines.proofs.Pieces.{whole-append, left-append}
 use Rattle.lines.proofs.Marks.{counted-append, marked-append, marked-same}
-use Rattle.lines.proofs.Digits.{digit-feed, all-cons}
-use Rattle.lines.proofs.Pairs.{read-length}
+use Rattle.hexadecimal.proofs.Digits.{digit-feed, all-cons}
+use Rattle.hexadecimal.proofs.Pairs.{read-length}
 
 -- ---- what is kept
 

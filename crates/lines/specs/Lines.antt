@@ -2,16 +2,13 @@
 use mathlib.Core.Path.{_≡_}
 use mathlib.Core.Bool.{cond}
 use mathlib.Core.List.{List, [], _∷_, _++_}
-use Prim.Native.Nat.{ℕ, suc, _*_, _≤_, min}
+use Prim.Native.Nat.{ℕ, suc, _≤_, min}
 use lib.Dec.{eqb}
 use lib.ListN.{length, take, drop}
 use Rattle.meaning.specs.Limits.{frameSize}
 use Rattle.meaning.specs.Frames.{decode}
 use Rattle.meaning.specs.Program.{Line, frame, other, lineFeed, readLine}
-
--- the digits of a frame
-abbrev pub lineSize : ℕ
-lineSize = 2 * frameSize
+use Rattle.hexadecimal.specs.Text.{lineSize}
 
 -- what is kept of the length of a line that is longer
 abbrev pub tooLong : ℕ

@@ -2,22 +2,15 @@
 use mathlib.Core.Path.{_≡_}
 use mathlib.Core.Bool.{cond}
 use mathlib.Core.List.{List, [], _∷_, _++_}
-use Prim.Native.Nat.{ℕ, suc, _+_, _*_, _≤_}
+use Prim.Native.Nat.{ℕ, _+_, _*_, _≤_}
 use lib.Dec.{eqb}
 use lib.ListN.{length, take, drop}
 use lib.Seq.{paste}
 use Rattle.meaning.specs.Limits.{answerSize, NOT-A-FRAME}
 use Rattle.meaning.specs.Frames.{encode}
 use Rattle.meaning.specs.Serve.{refused}
-use Rattle.meaning.specs.Program.{lineFeed, toHex}
+use Rattle.hexadecimal.specs.Text.{printedSize, printedAnswer}
 use Rattle.lines.specs.Lines.{FRAME, framesMarked}
-
--- an answer's digits and a line feed
-abbrev pub printedSize : ℕ
-printedSize = suc (2 * answerSize)
-
-unfoldable pub printedAnswer : (answer : List ℕ) → List ℕ
-printedAnswer bytes = toHex bytes ++ (lineFeed ∷ [])
 
 -- the answer to a line of that mark, from what is left of the answers
 unfoldable pub printedLine : (mark : ℕ) → (answers : List ℕ) → List ℕ

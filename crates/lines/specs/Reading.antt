@@ -8,7 +8,8 @@ use lib.Seq.{paste}
 use Rattle.meaning.specs.Limits.{frameSize}
 use Rattle.meaning.specs.Counting.{bit}
 use Rattle.meaning.specs.Program.{lineFeed, allDigits, fromHex}
-use Rattle.lines.specs.Lines.{lineSize, tooLong, wholeLines, leftOver, Keeps, markedLines, framesMarked}
+use Rattle.hexadecimal.specs.Text.{lineSize}
+use Rattle.lines.specs.Lines.{tooLong, wholeLines, leftOver, Keeps, markedLines, framesMarked}
 
 -- ---- a line that ends
 

@@ -1,4 +1,4 @@
-// The program's lines: their digits, the frames among them, and the answers to them as text.
+// The program's lines: the frames among them, and the answers to them as text.
 ghost use mathlib.Core.Path.{_≡_};
 ghost use mathlib.Core.Bool.{true, _&&_};
 ghost use mathlib.Core.List.{List, [], _∷_, _++_};
@@ -6,11 +6,12 @@ ghost use Prim.Native.Nat.{ℕ, _+_, _*_, _≤_, _<_};
 ghost use lib.Dec.{eqb};
 ghost use lib.ListN.{length, set};
 ghost use lib.Seq.{paste};
-ghost use Rattle.meaning.specs.Limits.{frameSize, answerSize};
-ghost use Rattle.meaning.specs.Program.{isDigit, digitValue, digitByte, allDigits, fromHex};
-ghost use Rattle.lines.specs.Lines.{lineSize, tooLong, Keeps, FRAME};
+ghost use Rattle.meaning.specs.Limits.{frameSize};
+ghost use Rattle.meaning.specs.Program.{allDigits, fromHex};
+ghost use Rattle.hexadecimal.specs.Text.{lineSize};
+ghost use Rattle.lines.specs.Lines.{tooLong, Keeps, FRAME};
 ghost use Rattle.lines.specs.Reading.{HasRoom, EndsLine, FrameAt, CanRead, Bounded, ReadsOn, ReadsPiece};
-ghost use Rattle.lines.specs.Printing.{printedSize, printedAnswer, CanPrintLine, PrintsLine, CanPrint, Prints};
+ghost use Rattle.lines.specs.Printing.{CanPrintLine, PrintsLine, CanPrint, Prints};
 
 const LINE_SIZE: usize = 24;
 
@@ -29,74 +30,6 @@ pub const OTHER: u8 = 0;
 
 const NOT_A_FRAME: u8 = 14;
 
-fn is_digit(b: u8) -> bool
-    ensures { λ r. ⌜ r ≡ isDigit b ⌝ }
-{
-    ((b'0' <= b) & (b <= b'9')) | ((b'A' <= b) & (b <= b'F'))
-}
-
-fn digit_value(b: u8) -> u8
-    requires { ⌜ isDigit b ≡ true ⌝ }
-    ensures { λ r. ⌜ (r ≡ digitValue b) × (r < 16) ⌝ }
-{
-    if b <= b'9' {
-        return b - 48;
-    }
-    b - 55
-}
-
-fn digit_byte(v: u8) -> u8
-    requires { ⌜ v < 16 ⌝ }
-    ensures { λ r. ⌜ r ≡ digitByte v ⌝ }
-{
-    if v < 10 {
-        return v + 48;
-    }
-    v + 55
-}
-
-fn all_digits(text: &[u8]) -> bool
-    ensures { λ r. ⌜ r ≡ allDigits (now (text .entry)) ⌝ }
-{
-    let mut all = true;
-    let mut i = 0;
-    while i < text.len() {
-        let digit = is_digit(text[i]);
-        all = all & digit;
-        i += 1;
-    }
-    all
-}
-
-// Writes what a frame's digits say.
-fn put_frame(text: &[u8], requests: &mut [u8], at: usize)
-    requires { ⌜ (length (now text) ≡ lineSize) × (allDigits (now text) ≡ true) × (at + frameSize ≤ length (now requests)) ⌝ }
-    ensures { λ _. ⌜ now (requests .exit) ≡ paste (now (requests .entry)) at (fromHex (now (text .entry))) frameSize ⌝ }
-{
-    let mut i = 0;
-    while i < FRAME_SIZE {
-        let high = digit_value(text[2 * i]);
-        let low = digit_value(text[2 * i + 1]);
-        requests[at + i] = high * 16 + low;
-        i += 1;
-    }
-}
-
-// Writes an answer as a line.
-fn print_answer(answer: &[u8], out: &mut [u8], at: usize)
-    requires { ⌜ (length (now answer) ≡ answerSize) × (at + printedSize ≤ length (now out)) ⌝ }
-    ensures { λ _. ⌜ now (out .exit) ≡ paste (now (out .entry)) at (printedAnswer (now (answer .entry))) printedSize ⌝ }
-{
-    let mut i = 0;
-    while i < ANSWER_SIZE {
-        let b = answer[i];
-        out[at + 2 * i] = digit_byte(b / 16);
-        out[at + 2 * i + 1] = digit_byte(b % 16);
-        i += 1;
-    }
-    out[at + 2 * ANSWER_SIZE] = LINE_FEED;
-}
-
 // Writes the answer to a line of that mark; how many frames are answered then.
 fn print_line(mark: u8, answers: &[u8], frames: usize, out: &mut [u8], at: usize) -> usize
     requires { ⌜ CanPrintLine mark (now answers) frames (now out) at ⌝ }
@@ -105,11 +38,11 @@ fn print_line(mark: u8, answers: &[u8], frames: usize, out: &mut [u8], at: usize
     if mark == FRAME {
         let start = ANSWER_SIZE * frames;
         let end = start + ANSWER_SIZE;
-        print_answer(&answers[start..end], out, at);
+        hexadecimal::print_answer(&answers[start..end], out, at);
         return frames + 1;
     }
     let refused: [u8; 6] = [NOT_A_FRAME, 0, 0, 0, 0, 0];
-    print_answer(&refused, out, at);
+    hexadecimal::print_answer(&refused, out, at);
     frames
 }
 
@@ -144,7 +77,7 @@ fn mark_frame(text: &[u8], marks: &mut [u8], requests: &mut [u8], lines: usize, 
     ensures { λ _. ⌜ (now (marks .exit) ≡ set (now (marks .entry)) lines FRAME)
         × (now (requests .exit) ≡ paste (now (requests .entry)) (frameSize * frames) (fromHex (now (text .entry))) frameSize) ⌝ }
 {
-    put_frame(text, requests, FRAME_SIZE * frames);
+    hexadecimal::put_frame(text, requests, FRAME_SIZE * frames);
     marks[lines] = FRAME;
 }
 
@@ -165,7 +98,7 @@ fn end_line(
         marks[lines] = OTHER;
         return frames;
     }
-    let digits = all_digits(begun);
+    let digits = hexadecimal::all_digits(begun);
     if !digits {
         marks[lines] = OTHER;
         return frames;
@@ -185,7 +118,7 @@ fn is_frame_at(piece: &[u8], at: usize) -> bool
     if piece[end] != LINE_FEED {
         return false;
     }
-    all_digits(&piece[at..end])
+    hexadecimal::all_digits(&piece[at..end])
 }
 
 // How far a piece is read: to which byte, how much of a line is kept, how many lines and frames ended.

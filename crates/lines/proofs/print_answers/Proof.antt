@@ -4,8 +4,9 @@ use Prim.Native.Nat.{_≤_, _-_, _*_}
 use native.Mathlib.Omega.{arith}
 use lib.ListN.{length, take}
 use borrow.Author.Needs.{needs}
+use Rattle.hexadecimal.specs.Text.{printedSize}
 use Rattle.lines.specs.Lines.{framesMarked}
-use Rattle.lines.specs.Printing.{printedSize, printed}
+use Rattle.lines.specs.Printing.{printed}
 use Rattle.lines.proofs.Printed.{none-counted, none-printed, line-can, next-printed, all-printed}
 use Rattle.lines.proofs.print_answers.Statement.{statement}
 use Rattle.lines.proofs.print_answers.Tie as tie

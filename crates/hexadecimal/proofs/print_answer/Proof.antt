@@ -1,14 +1,14 @@
--- `lines::print_answer` meets its contract.
+-- `hexadecimal::print_answer` meets its contract.
 use mathlib.Core.Path.{_≡_, refl}
 use Prim.Native.Nat.{_≤_, _-_, _+_, _*_}
 use native.Mathlib.Omega.{arith}
 use lib.ListN.{length, length-set}
 use lib.Seq.{paste}
 use borrow.Author.Needs.{needs}
-use Rattle.lines.specs.Printing.{printedAnswer}
-use Rattle.lines.proofs.Pairs.{show-start, show-same, show-next, show-end}
-use Rattle.lines.proofs.print_answer.Statement.{statement}
-use Rattle.lines.proofs.print_answer.Tie as tie
+use Rattle.hexadecimal.specs.Text.{printedAnswer}
+use Rattle.hexadecimal.proofs.Pairs.{show-start, show-same, show-next, show-end}
+use Rattle.hexadecimal.proofs.print_answer.Statement.{statement}
+use Rattle.hexadecimal.proofs.print_answer.Tie as tie
 
 abbrev Inv-loop : tie.InvT-loop
 Inv-loop answer out₀ at i₀ out i = (i ≤ 6) × (length out ≡ length out₀) × (out ≡ paste out₀ at (printedAnswer answer) (2 * i))

@@ -1,13 +1,13 @@
--- `lines::all_digits` meets its contract.
+-- `hexadecimal::all_digits` meets its contract.
 use mathlib.Core.Path.{_≡_}
 use Prim.Native.Nat.{_≤_, _-_}
 use native.Mathlib.Omega.{arith}
 use lib.ListN.{length, take}
 use borrow.Author.Needs.{needs}
 use Rattle.meaning.specs.Program.{allDigits}
-use Rattle.lines.proofs.Digits.{all-start, all-next, all-ends}
-use Rattle.lines.proofs.all_digits.Statement.{statement}
-use Rattle.lines.proofs.all_digits.Tie as tie
+use Rattle.hexadecimal.proofs.Digits.{all-start, all-next, all-ends}
+use Rattle.hexadecimal.proofs.all_digits.Statement.{statement}
+use Rattle.hexadecimal.proofs.all_digits.Tie as tie
 
 abbrev Inv-loop : tie.InvT-loop
 Inv-loop text all₀ i₀ all i = (i ≤ length text) × (all ≡ allDigits (take i text))

@@ -1,4 +1,4 @@
--- `lines::put_frame` meets its contract.
+-- `hexadecimal::put_frame` meets its contract.
 use mathlib.Core.Path.{_≡_, refl}
 use Prim.Native.Nat.{_≤_, _-_, _+_, _*_}
 use native.Mathlib.Omega.{arith}
@@ -6,10 +6,10 @@ use lib.ListN.{length}
 use lib.Seq.{paste}
 use borrow.Author.Needs.{needs}
 use Rattle.meaning.specs.Program.{fromHex}
-use Rattle.lines.proofs.Digits.{all-at}
-use Rattle.lines.proofs.Pairs.{put-start, put-same, put-next, put-ends}
-use Rattle.lines.proofs.put_frame.Statement.{statement}
-use Rattle.lines.proofs.put_frame.Tie as tie
+use Rattle.hexadecimal.proofs.Digits.{all-at}
+use Rattle.hexadecimal.proofs.Pairs.{put-start, put-same, put-next, put-ends}
+use Rattle.hexadecimal.proofs.put_frame.Statement.{statement}
+use Rattle.hexadecimal.proofs.put_frame.Tie as tie
 
 abbrev Inv-loop : tie.InvT-loop
 Inv-loop text requests₀ at i₀ requests i = (i ≤ 12) × (length requests ≡ length requests₀) × (requests ≡ paste requests₀ at (fromHex text) i)

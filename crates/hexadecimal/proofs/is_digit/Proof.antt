@@ -1,8 +1,8 @@
--- `lines::is_digit` meets its contract.
+-- `hexadecimal::is_digit` meets its contract.
 use mathlib.Core.Path.{refl}
 use Rattle.meaning.specs.Program.{isDigit}
-use Rattle.lines.proofs.is_digit.Statement.{statement}
-use Rattle.lines.proofs.is_digit.Tie as tie
+use Rattle.hexadecimal.proofs.is_digit.Statement.{statement}
+use Rattle.hexadecimal.proofs.is_digit.Tie as tie
 
 returns : tie.Need-returns
 unfolding isDigit

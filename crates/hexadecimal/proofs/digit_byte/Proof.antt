@@ -1,8 +1,8 @@
--- `lines::digit_byte` meets its contract.
+-- `hexadecimal::digit_byte` meets its contract.
 use borrow.Author.Needs.{needs}
-use Rattle.lines.proofs.Digits.{number-byte, letter-byte}
-use Rattle.lines.proofs.digit_byte.Statement.{statement}
-use Rattle.lines.proofs.digit_byte.Tie as tie
+use Rattle.hexadecimal.proofs.Digits.{number-byte, letter-byte}
+use Rattle.hexadecimal.proofs.digit_byte.Statement.{statement}
+use Rattle.hexadecimal.proofs.digit_byte.Tie as tie
 
 add-result : tie.Need-add-result
 add-result c = search needs

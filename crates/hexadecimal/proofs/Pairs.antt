@@ -9,8 +9,7 @@ use lib.ListN.{length, getD, set, length-append, List·getD-append}
 use lib.Seq.{paste, paste-suc, paste-zero, length-paste, getD-at}
 use Rattle.meaning.specs.Limits.{frameSize, answerSize}
 use Rattle.meaning.specs.Program.{lineFeed, digitValue, digitByte, fromHex, toHex}
-use Rattle.lines.specs.Lines.{lineSize}
-use Rattle.lines.specs.Printing.{printedSize, printedAnswer}
+use Rattle.hexadecimal.specs.Text.{lineSize, printedSize, printedAnswer}
 
 twice-suc : (n : ℕ) → 2 * suc n ≡ suc (suc (2 * n))
 twice-suc n = let e : 2 * suc n ≡ 2 * n + 2 = mul-suc 2 n in omega arith

@@ -1,8 +1,8 @@
--- `lines::digit_value` meets its contract.
+-- `hexadecimal::digit_value` meets its contract.
 use native.Mathlib.Omega.{arith}
-use Rattle.lines.proofs.Digits.{number-digit, number-value, letter-value}
-use Rattle.lines.proofs.digit_value.Statement.{statement}
-use Rattle.lines.proofs.digit_value.Tie as tie
+use Rattle.hexadecimal.proofs.Digits.{number-digit, number-value, letter-value}
+use Rattle.hexadecimal.proofs.digit_value.Statement.{statement}
+use Rattle.hexadecimal.proofs.digit_value.Tie as tie
 
 sub-result : tie.Need-sub-result
 sub-result c = number-digit _ (c .before .pre) (c .if1 .taken)
