@@ -5,3 +5,5 @@ pub mod Talking
 pub mod Turns
 pub mod Steps
 pub mod Printed
+pub mod Joined
+pub mod Examples

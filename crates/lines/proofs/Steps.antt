@@ -16,7 +16,7 @@ use Rattle.meaning.specs.Counting.{bit}
 use Rattle.meaning.specs.Program.{lineFeed, allDigits, fromHex}
 use Rattle.hexadecimal.specs.Text.{lineSize}
 use Rattle.lines.specs.Lines.{tooLong, wholeLines, leftOver, Keeps, FRAME, markedLines, framesMarked}
-use Rattle.lines.specs.Reading.{HasRoom, EndsLine, FrameAt, Reads, CanRead, Bounded, ReadsOn, ReadsPiece}
+use Rattle.lines.specs.Reading.{HasRoom, EndsLine, FrameAt, Reads, Bounded, CanReadOn, ReadsOn, ReadsPiece}
 use Rattle.lines.proofs.Turns.{byte-read, feed-read, frame-read}
 
 -- ---- a line that ends
@@ -69,12 +69,12 @@ bit-most : (o : Bool) → bit o ≤ 1
 bit-most true = omega arith
 bit-most false = omega arith
 
-module _ (piece : List ℕ) (at len : ℕ) (marks requests : List ℕ) (lines frames : ℕ) (can : CanRead piece len marks requests) (most : Bounded at len lines frames) (l : at < length piece) where
+module _ (piece : List ℕ) (at len : ℕ) (marks requests : List ℕ) (lines frames : ℕ) (on : CanReadOn piece at len marks requests lines frames) where
   pub has-room : HasRoom marks requests lines frames
-  has-room = record { mark = omega (arith, can .markRoom, most .manyLines); bytes = omega (arith, can .requestRoom, most .manyLines, most .manyFrames) }
+  has-room = record { mark = omega (arith, on .more, on .can .markRoom, on .bounded .manyLines); bytes = omega (arith, on .more, on .can .requestRoom, on .bounded .manyLines, on .bounded .manyFrames) }
 
   next-is : take (at + 1) piece ≡ take at piece ++ (getD piece at 0 ∷ [])
-  next-is = rw (add-one, take-suc piece at 0 l)
+  next-is = rw (add-one, take-suc piece at 0 (on .more))
 
   pub byte-on : (bytes bytes′ : List ℕ) (len′ : ℕ) → getD piece at 0 ≢ lineFeed → len′ ≤ tooLong
       → ((line : List ℕ) → Keeps bytes len line → Keeps bytes′ len′ (line ++ (getD piece at 0 ∷ [])))
@@ -82,39 +82,38 @@ module _ (piece : List ℕ) (at len : ℕ) (marks requests : List ℕ) (lines fr
   byte-on bytes bytes′ len′ f m k =
       record {
         further = omega arith;
-        inside = omega arith;
-        bounded = record { kept = m; manyLines = omega (arith, most .manyLines); manyFrames = most .manyFrames };
+        inside = omega (arith, on .more);
+        bounded = record { kept = m; manyLines = omega (arith, on .bounded .manyLines); manyFrames = on .bounded .manyFrames };
         reads = λ line r. rw next-is (byte-read line (take at piece) bytes len marks requests lines frames r (getD piece at 0) bytes′ len′ f (k _ (r .keeps)));
       }
 
-  module _ (bytes marks′ requests′ : List ℕ) (frames′ : ℕ) where
-    pub feed-on : getD piece at 0 ≡ lineFeed → EndsLine (eqb len lineSize && allDigits bytes) bytes marks requests lines frames marks′ requests′ frames′
-        → ReadsOn piece bytes at len marks requests lines frames bytes (at + 1) 0 marks′ requests′ (lines + 1) frames′
-    feed-on f h =
-        record {
-          further = omega arith;
-          inside = omega arith;
-          bounded =
-              record {
-                kept = omega arith;
-                manyLines = omega (arith, most .manyLines);
-                manyFrames = omega (arith, most .manyFrames, h .counted, bit-most (eqb len lineSize && allDigits bytes));
-              };
-          reads = λ line r. rw (next-is, f) (feed-read line (take at piece) bytes len marks requests lines frames r marks′ requests′ frames′ has-room h);
-        }
+  pub feed-on : (bytes marks′ requests′ : List ℕ) (frames′ : ℕ) → getD piece at 0 ≡ lineFeed → EndsLine (eqb len lineSize && allDigits bytes) bytes marks requests lines frames marks′ requests′ frames′
+      → ReadsOn piece bytes at len marks requests lines frames bytes (at + 1) 0 marks′ requests′ (lines + 1) frames′
+  feed-on bytes marks′ requests′ frames′ f h =
+      record {
+        further = omega arith;
+        inside = omega (arith, on .more);
+        bounded =
+            record {
+              kept = omega arith;
+              manyLines = omega (arith, on .bounded .manyLines);
+              manyFrames = omega (arith, on .bounded .manyFrames, h .counted, bit-most (eqb len lineSize && allDigits bytes));
+            };
+        reads = λ line r. rw (next-is, f) (feed-read line (take at piece) bytes len marks requests lines frames r marks′ requests′ frames′ has-room h);
+      }
 
-    pub frame-on : len ≡ 0 → FrameAt piece at → marks′ ≡ set marks lines FRAME → requests′ ≡ paste requests (frameSize * frames) (fromHex (take (at + lineSize - at) (drop at piece))) frameSize
-        → ReadsOn piece bytes at len marks requests lines frames bytes (at + lineSize + 1) 0 marks′ requests′ (lines + 1) (frames + 1)
-    frame-on z h p q =
-        let q′ : requests′ ≡ paste requests (frameSize * frames) (fromHex (digits piece at h)) frameSize = rw (part-size at lineSize) at q in
-        record {
-          further = omega arith;
-          inside = omega (arith, h .inside);
-          bounded = record { kept = omega arith; manyLines = omega (arith, most .manyLines); manyFrames = omega (arith, most .manyFrames) };
-          reads = λ line r. rw (whole-is piece at h)
-              (frame-read line (take at piece) bytes len marks requests lines frames r marks′ requests′ (frames + 1) has-room (digits piece at h) z (digits-length piece at h) (h .digits)
-              (ends-frame true (digits piece at h) marks requests lines frames marks′ requests′ refl p q′));
-        }
+  pub frame-on : (bytes marks′ requests′ : List ℕ) → len ≡ 0 → FrameAt piece at → marks′ ≡ set marks lines FRAME → requests′ ≡ paste requests (frameSize * frames) (fromHex (take (at + lineSize - at) (drop at piece))) frameSize
+      → ReadsOn piece bytes at len marks requests lines frames bytes (at + lineSize + 1) 0 marks′ requests′ (lines + 1) (frames + 1)
+  frame-on bytes marks′ requests′ z h p q =
+      let q′ : requests′ ≡ paste requests (frameSize * frames) (fromHex (digits piece at h)) frameSize = rw (part-size at lineSize) at q in
+      record {
+        further = omega arith;
+        inside = omega (arith, h .inside);
+        bounded = record { kept = omega arith; manyLines = omega (arith, on .bounded .manyLines); manyFrames = omega (arith, on .bounded .manyFrames) };
+        reads = λ line r. rw (whole-is piece at h)
+            (frame-read line (take at piece) bytes len marks requests lines frames r marks′ requests′ (frames + 1) has-room (digits piece at h) z (digits-length piece at h) (h .digits)
+            (ends-frame true (digits piece at h) marks requests lines frames marks′ requests′ refl p q′));
+      }
 
 -- ---- a piece
 

@@ -2,7 +2,8 @@
 use mathlib.Core.Path.{_≡_, refl, sym, ap, _∙_}
 use mathlib.Core.Bool.{Bool, true, false, cond}
 use mathlib.Core.List.{List, [], _∷_, _++_, append-assoc}
-use Prim.Native.Nat.{ℕ, suc, _+_}
+use Prim.Native.Nat.{ℕ, suc, _+_, _<_}
+use native.Mathlib.Omega.{arith}
 use native.Mathlib.Nat.{zero-add, suc-add}
 use lib.Dec.{eqb}
 use lib.ListN.{length, take, drop}
@@ -126,3 +127,20 @@ marked-after (m ∷ ms) bs free t = by (eqb m FRAME) refl (marked-after ms (drop
         → afterLines (markedLines (m ∷ ms) bs) (atLines (m ∷ ms) free) t ≡ run (callsIn (framesMarked (m ∷ ms)) bs free) t .0
     by true e p q = after-frame m ms bs free t e p
     by false e p q = after-other m ms bs free t e q
+
+-- ---- what is free counts at the lines alone
+
+pub talk-same : (ls : List Line) (f g : ℕ → Supply) (t : Table) → ((n : ℕ) → n < length ls → f n ≡ g n) → talk ls f t ≡ talk ls g t
+unfolding talk
+talk-same [] f g t h = refl
+talk-same (frame x ∷ ls) f g t h =
+    rw (h 0 (omega arith), talk-same ls (λ n. f (suc n)) (λ n. g (suc n)) (serve (g 0) x t .0) (λ n l. h (suc n) (omega arith)))
+talk-same (other ∷ ls) f g t h = rw (talk-same ls (λ n. f (suc n)) (λ n. g (suc n)) t (λ n l. h (suc n) (omega arith)))
+
+pub after-same : (ls : List Line) (f g : ℕ → Supply) (t : Table) → ((n : ℕ) → n < length ls → f n ≡ g n) → afterLines ls f t ≡ afterLines ls g t
+unfolding afterLines
+after-same [] f g t h = refl
+after-same (frame x ∷ ls) f g t h =
+    ap (λ s. afterLines ls (λ n. f (suc n)) (serve s x t .0)) (h 0 (omega arith))
+    ∙ after-same ls (λ n. f (suc n)) (λ n. g (suc n)) (serve (g 0) x t .0) (λ n l. h (suc n) (omega arith))
+after-same (other ∷ ls) f g t h = after-same ls (λ n. f (suc n)) (λ n. g (suc n)) t (λ n l. h (suc n) (omega arith))

@@ -49,6 +49,12 @@ pub record Bounded (at len lines frames : ℕ) : Type 0 where
   pub manyLines : lines ≤ at
   pub manyFrames : frames ≤ lines
 
+-- there is more of it to read
+pub record CanReadOn (piece : List ℕ) (at len : ℕ) (marks requests : List ℕ) (lines frames : ℕ) : Type 0 where
+  pub can : CanRead piece len marks requests
+  pub bounded : Bounded at len lines frames
+  pub more : at < length piece
+
 -- further in a piece, whatever was kept before
 pub record ReadsOn (piece bytes : List ℕ) (at len : ℕ) (marks requests : List ℕ) (lines frames : ℕ) (bytes′ : List ℕ) (at′ len′ : ℕ) (marks′ requests′ : List ℕ) (lines′ frames′ : ℕ) : Type 0 where
   pub further : at < at′

@@ -10,10 +10,13 @@ ghost use Rattle.meaning.specs.Limits.{frameSize};
 ghost use Rattle.meaning.specs.Program.{allDigits, fromHex};
 ghost use Rattle.hexadecimal.specs.Text.{lineSize};
 ghost use Rattle.lines.specs.Lines.{tooLong, Keeps, FRAME};
-ghost use Rattle.lines.specs.Reading.{HasRoom, EndsLine, FrameAt, CanRead, Bounded, ReadsOn, ReadsPiece};
+ghost use Rattle.lines.specs.Reading.{HasRoom, EndsLine, FrameAt, CanRead, CanReadOn, ReadsOn, ReadsPiece};
 ghost use Rattle.lines.specs.Printing.{CanPrintLine, PrintsLine, CanPrint, Prints};
 
 const LINE_SIZE: usize = 24;
+
+// Kept as the length of any longer line.
+const TOO_LONG: usize = 25;
 
 const FRAME_SIZE: usize = 12;
 
@@ -69,7 +72,7 @@ fn keep_byte(begun: &mut [u8; 24], len: usize, b: u8) -> usize
         begun[len] = b;
         return len + 1;
     }
-    LINE_SIZE + 1
+    TOO_LONG
 }
 
 fn mark_frame(text: &[u8], marks: &mut [u8], requests: &mut [u8], lines: usize, frames: usize)
@@ -107,6 +110,7 @@ fn end_line(
     frames + 1
 }
 
+// Whether a frame's digits and a line feed stand there.
 fn is_frame_at(piece: &[u8], at: usize) -> bool
     requires { ⌜ at ≤ length (now piece) ⌝ }
     ensures { λ r. ⌜ (r ≡ true → FrameAt (now (piece .entry)) at) ⌝ }
@@ -136,7 +140,7 @@ fn read_byte(
     requests: &mut [u8],
     s: Reading,
 ) -> Reading
-    requires { ⌜ CanRead (now piece) (s .len) (now marks) (now requests) × Bounded (s .at) (s .len) (s .lines) (s .frames) × (s .at < length (now piece)) ⌝ }
+    requires { ⌜ CanReadOn (now piece) (s .at) (s .len) (now marks) (now requests) (s .lines) (s .frames) ⌝ }
     ensures { λ r. ⌜ ReadsOn (now (piece .entry)) (now (begun .entry)) (s .at) (s .len) (now (marks .entry)) (now (requests .entry)) (s .lines) (s .frames)
         (now (begun .exit)) (r .at) (r .len) (now (marks .exit)) (now (requests .exit)) (r .lines) (r .frames) ⌝ }
 {
@@ -162,7 +166,7 @@ fn read_byte(
 
 // A frame that stands whole in the piece goes straight to the requests.
 fn read_frame(piece: &[u8], marks: &mut [u8], requests: &mut [u8], s: Reading) -> Reading
-    requires { ⌜ CanRead (now piece) (s .len) (now marks) (now requests) × Bounded (s .at) (s .len) (s .lines) (s .frames) × (s .len ≡ 0) × FrameAt (now piece) (s .at) ⌝ }
+    requires { ⌜ CanReadOn (now piece) (s .at) (s .len) (now marks) (now requests) (s .lines) (s .frames) × (s .len ≡ 0) × FrameAt (now piece) (s .at) ⌝ }
     ensures { λ r. ⌜ ((bytes : List ℕ) → ReadsOn (now (piece .entry)) bytes (s .at) (s .len) (now (marks .entry)) (now (requests .entry)) (s .lines) (s .frames)
         bytes (r .at) (r .len) (now (marks .exit)) (now (requests .exit)) (r .lines) (r .frames)) ⌝ }
 {
@@ -184,7 +188,7 @@ fn read_on(
     requests: &mut [u8],
     s: Reading,
 ) -> Reading
-    requires { ⌜ CanRead (now piece) (s .len) (now marks) (now requests) × Bounded (s .at) (s .len) (s .lines) (s .frames) × (s .at < length (now piece)) ⌝ }
+    requires { ⌜ CanReadOn (now piece) (s .at) (s .len) (now marks) (now requests) (s .lines) (s .frames) ⌝ }
     ensures { λ r. ⌜ ReadsOn (now (piece .entry)) (now (begun .entry)) (s .at) (s .len) (now (marks .entry)) (now (requests .entry)) (s .lines) (s .frames)
         (now (begun .exit)) (r .at) (r .len) (now (marks .exit)) (now (requests .exit)) (r .lines) (r .frames) ⌝ }
 {
@@ -205,8 +209,7 @@ pub struct ReadLines {
     pub frames: usize,
 }
 
-// Marks the lines that end in a piece and puts the bytes of the frames among them one after the other. Of a line begun, its
-// first 24 bytes are kept, and its length: 25 for any longer.
+// Marks the lines that end in a piece, and puts the bytes of the frames among them one after the other.
 pub fn read_lines(
     piece: &[u8],
     begun: &mut [u8; 24],

@@ -14,11 +14,8 @@ add-result c = search needs
 returns : tie.Need-returns
 returns c = (omega arith, λ line k. keep-more _ _ line _ k (c .if1 .taken))
 
-add-result-2 : tie.Need-add-result-2
-add-result-2 c = search needs
-
 returns-2 : tie.Need-returns-2
 returns-2 c = (omega arith, λ line k. keep-long _ _ line _ k (c .if1 .left))
 
 pub keep-byte-spec : {M : Type 1} → statement M
-keep-byte-spec = tie.close (tie.spec element-write-begun add-result returns add-result-2 returns-2)
+keep-byte-spec = tie.close (tie.spec element-write-begun add-result returns returns-2)

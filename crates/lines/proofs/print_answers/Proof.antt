@@ -27,7 +27,7 @@ mul-print-line : tie.Need-mul-print-line Inv-loop μ-loop
 mul-print-line c = record { fits = omega (arith, c .before .before .before .before .before .before .before .pre .room, c .before .before .before .before .before .before .before .good .1 .1 .1 .0) }
 
 print-line-requires : tie.Need-print-line-requires Inv-loop μ-loop
-print-line-requires c κs = line-can (c .before .before .before .before .before .before .before .args .marks .now) (c .before .before .before .before .before .before .before .args .lines) (c .before .before .before .before .before .before .before .args .answers .now) (c .before .before .before .before .before .before .before .args .out .now) (c .before .before .before .before .before .before .before .pre) (c .before .before .before .loop .out) (c .before .before .before .loop .inv .1) (c .before .before .before .loop .frames) (c .before .before .before .loop .i) (c .before .before .loop-test .taken) (c .before .before .before .loop .inv .2)
+print-line-requires c κs = line-can _ _ _ _ (c .before .before .before .before .before .before .before .pre) _ (c .before .before .before .loop .inv .1) _ (c .before .before .before .loop .i) (c .before .before .loop-test .taken) (c .before .before .before .loop .inv .2)
 
 add-i : tie.Need-add-i Inv-loop μ-loop
 add-i c = search needs
@@ -36,7 +36,7 @@ loop-less : tie.Need-loop-less Inv-loop μ-loop
 loop-less c = search needs
 
 loop-again : tie.Need-loop-again Inv-loop μ-loop
-loop-again c = let n = next-printed (c .before .before .before .before .before .before .before .before .before .before .args .marks .now) (c .before .before .before .before .before .before .before .before .before .before .args .lines) (c .before .before .before .before .before .before .before .before .before .before .args .answers .now) (c .before .before .before .before .before .before .before .before .before .before .args .out .now) (c .before .before .before .before .before .before .before .before .before .before .pre) (c .before .before .before .before .before .before .loop .out) (c .before .before .before .before .before .before .loop .inv .1) (c .before .before .before .before .before .before .loop .frames) (c .before .before .before .before .before .before .loop .i) (c .before .before .before .before .before .loop-test .taken) (c .before .before .before .before .before .before .loop .inv .2) _ _ (c .before .before .before .before .before .before .loop .inv .3) (c .before .before .print-line .ensures) in (omega arith, n .0, n .1, n .2)
+loop-again c = let n = next-printed _ _ _ _ (c .before .before .before .before .before .before .before .before .before .before .pre) _ (c .before .before .before .before .before .before .loop .inv .1) _ (c .before .before .before .before .before .before .loop .i) (c .before .before .before .before .before .loop-test .taken) (c .before .before .before .before .before .before .loop .inv .2) _ _ (c .before .before .before .before .before .before .loop .inv .3) (c .before .before .print-line .ensures) in (omega arith, n .0, n .1, n .2)
 
 mul-result : tie.Need-mul-result Inv-loop μ-loop
 mul-result c = record { fits = omega (arith, c .before .before .before .before .before .pre .room, c .before .before .before .before .before .good .1 .1 .1 .0) }

@@ -1,6 +1,6 @@
 -- `lines::read_byte` meets its contract.
 use borrow.Author.Needs.{needs}
-use Rattle.lines.proofs.Steps.{byte-on, feed-on}
+use Rattle.lines.proofs.Steps.{has-room, byte-on, feed-on}
 use Rattle.lines.proofs.read_byte.Statement.{statement}
 use Rattle.lines.proofs.read_byte.Tie as tie
 
@@ -8,7 +8,7 @@ shared-slice-read-b : tie.Need-shared-slice-read-b
 shared-slice-read-b c = search needs
 
 end-line-requires : tie.Need-end-line-requires
-end-line-requires c κs = search needs
+end-line-requires c κs = has-room _ _ _ _ _ _ _ (c .before .before .before .before .before .before .before .before .pre)
 
 add-t18 : tie.Need-add-t18
 add-t18 c = search needs
@@ -23,16 +23,16 @@ same-length-2 : tie.Need-same-length-2
 same-length-2 c = search needs
 
 returns : tie.Need-returns
-returns c = feed-on (c .before .before .before .before .before .before .before .before .before .before .before .before .before .before .args .piece .now) (c .before .before .before .before .before .before .before .before .before .before .before .before .before .before .args .s .at) (c .before .before .before .before .before .before .before .before .before .before .before .before .before .before .args .s .len) (c .before .before .before .before .before .before .before .before .before .before .before .before .before .before .args .marks .now) (c .before .before .before .before .before .before .before .before .before .before .before .before .before .before .args .requests .now) (c .before .before .before .before .before .before .before .before .before .before .before .before .before .before .args .s .lines) (c .before .before .before .before .before .before .before .before .before .before .before .before .before .before .args .s .frames) (c .before .before .before .before .before .before .before .before .before .before .before .before .before .before .pre .0) (c .before .before .before .before .before .before .before .before .before .before .before .before .before .before .pre .1) (c .before .before .before .before .before .before .before .before .before .before .before .before .before .before .pre .2) (c .before .before .before .before .before .before .before .before .before .before .before .before .before .before .args .begun .now) _ _ _ (c .before .before .before .before .before .before .before .before .before .if1 .taken) (c .before .before .before .before .before .end-line .ensures)
+returns c = feed-on _ _ _ _ _ _ _ (c .before .before .before .before .before .before .before .before .before .before .before .before .before .before .pre) _ _ _ _ (c .before .before .before .before .before .before .before .before .before .if1 .taken) (c .before .before .before .before .before .end-line .ensures)
 
 keep-byte-requires : tie.Need-keep-byte-requires
-keep-byte-requires c κs = search needs
+keep-byte-requires c κs = c .before .before .before .before .before .before .pre .can .kept
 
 add-t21 : tie.Need-add-t21
 add-t21 c = search needs
 
 returns-2 : tie.Need-returns-2
-returns-2 c = byte-on (c .before .before .before .before .before .before .before .args .piece .now) (c .before .before .before .before .before .before .before .args .s .at) (c .before .before .before .before .before .before .before .args .s .len) (c .before .before .before .before .before .before .before .args .marks .now) (c .before .before .before .before .before .before .before .args .requests .now) (c .before .before .before .before .before .before .before .args .s .lines) (c .before .before .before .before .before .before .before .args .s .frames) (c .before .before .before .before .before .before .before .pre .0) (c .before .before .before .before .before .before .before .pre .1) (c .before .before .before .before .before .before .before .pre .2) (c .before .before .before .before .before .before .before .args .begun .now) _ _ (c .before .before .if1 .left) (c .keep-byte .ensures .0) (c .keep-byte .ensures .1)
+returns-2 c = byte-on _ _ _ _ _ _ _ (c .before .before .before .before .before .before .before .pre) _ _ _ (c .before .before .if1 .left) (c .keep-byte .ensures .0) (c .keep-byte .ensures .1)
 
 pub read-byte-spec : {M : Type 1} → statement M
 read-byte-spec =

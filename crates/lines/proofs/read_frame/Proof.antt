@@ -1,5 +1,4 @@
 -- `lines::read_frame` meets its contract.
-use native.Mathlib.Omega.{arith}
 use borrow.Author.Needs.{needs}
 use Rattle.lines.proofs.Steps.{has-room, part-digits, frame-on}
 use Rattle.lines.proofs.read_frame.Statement.{statement}
@@ -18,7 +17,7 @@ part-mark-frame-end : tie.Need-part-mark-frame-end
 part-mark-frame-end c = search needs
 
 mark-frame-requires : tie.Need-mark-frame-requires
-mark-frame-requires c κs = let d = part-digits _ _ (c .before .before .before .before .before .before .pre .3) in (d .0, d .1, has-room (c .before .before .before .before .before .before .args .piece .now) (c .before .before .before .before .before .before .args .s .at) (c .before .before .before .before .before .before .args .s .len) (c .before .before .before .before .before .before .args .marks .now) (c .before .before .before .before .before .before .args .requests .now) (c .before .before .before .before .before .before .args .s .lines) (c .before .before .before .before .before .before .args .s .frames) (c .before .before .before .before .before .before .pre .0) (c .before .before .before .before .before .before .pre .1) (omega (arith, c .before .before .before .before .before .before .pre .3 .inside)))
+mark-frame-requires c κs = let d = part-digits _ _ (c .before .before .before .before .before .before .pre .2) in (d .0, d .1, has-room _ _ _ _ _ _ _ (c .before .before .before .before .before .before .pre .0))
 
 add-t9 : tie.Need-add-t9
 add-t9 c = search needs
@@ -36,7 +35,7 @@ same-length-2 : tie.Need-same-length-2
 same-length-2 c = search needs
 
 returns : tie.Need-returns
-returns c = λ bytes. frame-on (c .before .before .before .before .before .before .before .before .before .before .before .before .before .args .piece .now) (c .before .before .before .before .before .before .before .before .before .before .before .before .before .args .s .at) (c .before .before .before .before .before .before .before .before .before .before .before .before .before .args .s .len) (c .before .before .before .before .before .before .before .before .before .before .before .before .before .args .marks .now) (c .before .before .before .before .before .before .before .before .before .before .before .before .before .args .requests .now) (c .before .before .before .before .before .before .before .before .before .before .before .before .before .args .s .lines) (c .before .before .before .before .before .before .before .before .before .before .before .before .before .args .s .frames) (c .before .before .before .before .before .before .before .before .before .before .before .before .before .pre .0) (c .before .before .before .before .before .before .before .before .before .before .before .before .before .pre .1) (omega (arith, c .before .before .before .before .before .before .before .before .before .before .before .before .before .pre .3 .inside)) bytes _ _ 0 (c .before .before .before .before .before .before .before .before .before .before .before .before .before .pre .2) (c .before .before .before .before .before .before .before .before .before .before .before .before .before .pre .3) (c .before .before .before .before .before .before .mark-frame .ensures .0) (c .before .before .before .before .before .before .mark-frame .ensures .1)
+returns c = λ bytes. frame-on _ _ _ _ _ _ _ (c .before .before .before .before .before .before .before .before .before .before .before .before .before .pre .0) bytes _ _ (c .before .before .before .before .before .before .before .before .before .before .before .before .before .pre .1) (c .before .before .before .before .before .before .before .before .before .before .before .before .before .pre .2) (c .before .before .before .before .before .before .mark-frame .ensures .0) (c .before .before .before .before .before .before .mark-frame .ensures .1)
 
 pub read-frame-spec : {M : Type 1} → statement M
 read-frame-spec =

@@ -22,7 +22,7 @@ loop-holds : tie.Need-loop-holds Inv-loop μ-loop
 loop-holds c = (omega arith, refl, refl, record { kept = c .before .before .before .pre .kept; manyLines = omega arith; manyFrames = omega arith }, λ line k. read-start (c .before .before .before .args .piece .now) _ _ _ _ line k)
 
 read-on-requires : tie.Need-read-on-requires Inv-loop μ-loop
-read-on-requires c κs = (record { kept = c .before .before .before .before .before .loop .inv .3 .kept; markRoom = omega (arith, c .before .before .before .before .before .before .before .before .before .pre .markRoom, c .before .before .before .before .before .loop .inv .1); requestRoom = omega (arith, c .before .before .before .before .before .before .before .before .before .pre .requestRoom, c .before .before .before .before .before .loop .inv .2) }, c .before .before .before .before .before .loop .inv .3, c .before .before .before .if1 .taken)
+read-on-requires c κs = record { can = record { kept = c .before .before .before .before .before .loop .inv .3 .kept; markRoom = omega (arith, c .before .before .before .before .before .before .before .before .before .pre .markRoom, c .before .before .before .before .before .loop .inv .1); requestRoom = omega (arith, c .before .before .before .before .before .before .before .before .before .pre .requestRoom, c .before .before .before .before .before .loop .inv .2) }; bounded = c .before .before .before .before .before .loop .inv .3; more = c .before .before .before .if1 .taken }
 
 loop-less : tie.Need-loop-less Inv-loop μ-loop
 loop-less c = omega (arith, c .before .before .before .before .read-on .ensures .further, c .before .before .before .before .read-on .ensures .inside)

@@ -19,7 +19,7 @@ is-frame-at-requires : tie.Need-is-frame-at-requires
 is-frame-at-requires c κs = search needs
 
 read-frame-requires : tie.Need-read-frame-requires
-read-frame-requires c κs = (c .before .before .before .before .before .before .before .before .before .pre .0, c .before .before .before .before .before .before .before .before .before .pre .1, c .before .before .before .before .if1 .left, c .before .before .before .is-frame-at .ensures (c .before .before .if2 .taken))
+read-frame-requires c κs = (c .before .before .before .before .before .before .before .before .before .pre, c .before .before .before .before .if1 .left, c .before .before .before .is-frame-at .ensures (c .before .before .if2 .taken))
 
 same-length-3 : tie.Need-same-length-3
 same-length-3 c = search needs
