@@ -1,0 +1,3 @@
+-- What is proved of digits one by one and two by two.
+pub mod Digits
+pub mod Pairs

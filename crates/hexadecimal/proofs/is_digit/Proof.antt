@@ -1,0 +1,12 @@
+-- `hexadecimal::is_digit` meets its contract.
+use mathlib.Core.Path.{refl}
+use Rattle.meaning.specs.Program.{isDigit}
+use Rattle.hexadecimal.proofs.is_digit.Statement.{statement}
+use Rattle.hexadecimal.proofs.is_digit.Tie as tie
+
+returns : tie.Need-returns
+unfolding isDigit
+returns c = refl
+
+pub is-digit-spec : {M : Type 1} → statement M
+is-digit-spec = tie.close (tie.spec returns)
