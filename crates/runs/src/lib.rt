@@ -1,0 +1,159 @@
+// Frames in order on a state that runs, each answered at its 6 bytes.
+use level::PLACES;
+use records::Version;
+use requests::Answer;
+use requests::Frame;
+use served::Served;
+use walk::ROOM;
+ghost use mathlib.Core.Path.{_≡_};
+ghost use Rattle.records.specs.Records.{recordOf, recordsOf};
+ghost use Rattle.store.specs.Store.{storeOf};
+ghost use Rattle.walk.specs.Walk.{slices};
+ghost use Rattle.requests.specs.Requests.{frameOf};
+ghost use Rattle.served.specs.Acted.{actedOf};
+ghost use Rattle.calls.specs.Calls.{withWalks};
+ghost use Rattle.turns.specs.Turns.{Turnable, turn};
+ghost use Rattle.runs.specs.Runs.{Placed, sourceFrom, targetFrom, runOf, progress, CanRun, runFrom};
+
+const SLOTS: usize = 64;
+
+const FRAME_SIZE: usize = 12;
+
+const ANSWER_SIZE: usize = 6;
+
+// Where the records of a frame's slots stand, and the one that it may change.
+pub struct Places {
+    pub source: usize,
+    pub target: usize,
+    pub changed: usize,
+}
+
+fn places_of(f: Frame) -> Places
+    ensures { λ r. ⌜ Placed (frameOf f) (r .source) (r .target) (r .changed) ⌝ }
+{
+    let source = turns::slot_place(refusals::giver(f), f.slot);
+    let target = turns::slot_place(refusals::taker(f), f.destination);
+    Places {
+        source: source,
+        target: target,
+        changed: turns::changed_place(f, source, target),
+    }
+}
+
+// With what stands at the places, whether the frame's slots are there or not.
+fn serve(
+    kinds: &mut [u8],
+    used: &mut [u8],
+    counts: &mut [u32],
+    cells: &mut [u32],
+    order: &mut [u32],
+    numbers: &mut [u32; ROOM],
+    nodes: &mut [u32; PLACES],
+    indices: &mut [i32; PLACES],
+    free: usize,
+    f: Frame,
+    at_source: Version,
+    at_target: Version,
+    old: Version,
+) -> Served
+    requires { ⌜ Turnable (storeOf (now kinds) (now used) (now counts) (now cells) (now order) free) (slices (now numbers) (now nodes) (now indices))
+        (frameOf f) (sourceFrom (frameOf f) (recordOf «at_source»)) (targetFrom (frameOf f) (recordOf «at_target»)) ⌝ }
+    ensures { λ r. ⌜ withWalks (actedOf (storeOf (now (kinds .exit)) (now (used .exit)) (now (counts .exit)) (now (cells .exit)) (now (order .exit)) (r .free)) r)
+        (slices (now (numbers .exit)) (now (nodes .exit)) (now (indices .exit)))
+        ≡ turn (storeOf (now (kinds .entry)) (now (used .entry)) (now (counts .entry)) (now (cells .entry)) (now (order .entry)) free)
+        (slices (now (numbers .entry)) (now (nodes .entry)) (now (indices .entry)))
+        (frameOf f) (sourceFrom (frameOf f) (recordOf «at_source»)) (targetFrom (frameOf f) (recordOf «at_target»)) (recordOf old) ⌝ }
+{
+    let source_there = turns::is_slot(refusals::giver(f), f.slot);
+    let target_there = turns::is_slot(refusals::taker(f), f.destination);
+    let v = turns::version_or_empty(source_there, at_source);
+    let w = turns::version_or_empty(target_there, at_target);
+    turns::serve(
+        kinds,
+        used,
+        counts,
+        cells,
+        order,
+        numbers,
+        nodes,
+        indices,
+        free,
+        f,
+        v,
+        w,
+        old,
+    )
+}
+
+// The version records and the number of free nodes afterwards.
+pub struct Ran {
+    pub versions: [Version; SLOTS],
+    pub free: usize,
+}
+
+pub fn run(
+    kinds: &mut [u8],
+    used: &mut [u8],
+    counts: &mut [u32],
+    cells: &mut [u32],
+    order: &mut [u32],
+    numbers: &mut [u32; ROOM],
+    nodes: &mut [u32; PLACES],
+    indices: &mut [i32; PLACES],
+    free: usize,
+    versions: [Version; SLOTS],
+    requests: &[u8],
+    room: &mut [u8],
+    count: usize,
+) -> Ran
+    requires { ⌜ CanRun (runOf (storeOf (now kinds) (now used) (now counts) (now cells) (now order) free) (recordsOf versions) (slices (now numbers) (now nodes) (now indices)))
+        (now requests) (now room) count ⌝ }
+    ensures { λ r. ⌜ progress (runOf (storeOf (now (kinds .exit)) (now (used .exit)) (now (counts .exit)) (now (cells .exit)) (now (order .exit)) (r .free))
+        (recordsOf (r .versions)) (slices (now (numbers .exit)) (now (nodes .exit)) (now (indices .exit)))) (now (room .exit))
+        ≡ runFrom (now (requests .entry)) count
+        (progress (runOf (storeOf (now (kinds .entry)) (now (used .entry)) (now (counts .entry)) (now (cells .entry)) (now (order .entry)) free)
+        (recordsOf versions) (slices (now (numbers .entry)) (now (nodes .entry)) (now (indices .entry)))) (now (room .entry))) 0 ⌝ }
+{
+    let mut table = versions;
+    let mut left = free;
+    let mut k = 0;
+    while k < count {
+        let f = requests::frame_at(requests, FRAME_SIZE * k);
+        let at = places_of(f);
+        let source = at.source;
+        let target = at.target;
+        let changed = at.changed;
+        let at_source = table[source];
+        let at_target = table[target];
+        let old = table[changed];
+        let r = serve(
+            kinds,
+            used,
+            counts,
+            cells,
+            order,
+            numbers,
+            nodes,
+            indices,
+            left,
+            f,
+            at_source,
+            at_target,
+            old,
+        );
+        let version = r.version;
+        table[changed] = version;
+        left = r.free;
+        let answer = Answer {
+            number: r.number,
+            fresh: r.fresh,
+            value: r.value,
+        };
+        requests::put_answer(room, ANSWER_SIZE * k, answer);
+        k += 1;
+    }
+    Ran {
+        versions: table,
+        free: left,
+    }
+}
