@@ -2,6 +2,7 @@
 JUMPERLOFT_ORIGINAL ?= $(abspath ../shared/docs/src/src/vector/mod.rs)
 export JUMPERLOFT_ORIGINAL
 JUDGE = cargo run --quiet --release --offline -p judge --
+SESSION = cargo run --quiet --release --offline -p session --
 # the driver holds our code against the original where its text is at hand, and against its recorded answers where it isn't
 WITH_ORIGINAL = $(if $(wildcard $(JUMPERLOFT_ORIGINAL)),--features original)
 DRIVE = cargo run --quiet --release --offline -p drive $(WITH_ORIGINAL) --
@@ -23,11 +24,11 @@ format:
 kinds:
 	@sh tests/kinds_of_numbers.sh
 
-# the original as judge of the definitions' formulas and of the recorded answers
+# the original as judge of the definitions' formulas and of the recorded answers and sessions
 oracle:
 	@if ! command -v cargo >/dev/null 2>&1; then echo 'oracle: SKIPPED, there is no cargo on this machine'; \
 	elif ! [ -f "$$JUMPERLOFT_ORIGINAL" ]; then echo "oracle: SKIPPED, the original's text is not at $$JUMPERLOFT_ORIGINAL"; \
-	else cd oracle && cargo test --quiet --offline -p archery -p formulas -p judge && $(JUDGE) costs && $(JUDGE) recorded recorded; fi
+	else cd oracle && cargo test --quiet --offline -p archery -p formulas -p judge -p session && $(JUDGE) costs && $(JUDGE) recorded recorded && $(SESSION) recorded recorded; fi
 
 # our code, compiled, against the original or its recorded answers; our audit against a plain one over damaged states
 drive:
@@ -45,6 +46,6 @@ bench-audit:
 	@mkdir -p target; rt staticlib trial >target/staticlib.log 2>&1 || { tail -20 target/staticlib.log; exit 1; }
 	@cd oracle && $(DRIVE) bench-audit
 
-# writes the recorded answers anew
+# writes the recorded answers and sessions anew
 record:
-	@cd oracle && $(JUDGE) record recorded && $(DRIVE) record recorded
+	@cd oracle && $(JUDGE) record recorded && $(SESSION) record recorded && $(DRIVE) record recorded

@@ -12,6 +12,10 @@ pub fn bucket(bits: u8, index: usize, height: usize) -> usize {
     vector_utils::bucket(bits, index, height)
 }
 
+pub fn bits<T, P: SharedPointerKind>(vector: &Vector<T, P>) -> u8 {
+    vector.bits
+}
+
 pub fn height<T, P: SharedPointerKind>(vector: &Vector<T, P>) -> usize {
     vector.height()
 }
@@ -65,6 +69,11 @@ impl Shape {
 
     pub fn distinct_nodes(&self) -> usize {
         self.addresses.len()
+    }
+
+    /// Where the nodes are, so that those of several vectors can be told apart.
+    pub fn into_addresses(self) -> HashSet<usize> {
+        self.addresses
     }
 
     pub fn is_packed_to_the_left(&self) -> bool {

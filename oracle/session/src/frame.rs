@@ -1,0 +1,131 @@
+//! A frame and an answer, as bytes and as lines of hexadecimal.
+
+use crate::numbers::{DONE, NOT_A_FRAME};
+
+const DIGITS: usize = 24;
+
+#[derive(Clone, Copy, Debug, Default, PartialEq, Eq)]
+pub struct Frame {
+    pub party: u8,
+    pub operation: u8,
+    pub slot: u8,
+    pub destination: u8,
+    pub index: u32,
+    pub value: u32,
+}
+
+impl Frame {
+    /// None for every line, its line feed included, that isn't a frame.
+    pub fn of_line(line: &[u8]) -> Option<Frame> {
+        let digits: &[u8; DIGITS] = line.strip_suffix(b"\n")?.try_into().ok()?;
+        let mut bytes = [0; DIGITS / 2];
+        for (byte, pair) in bytes.iter_mut().zip(digits.chunks(2)) {
+            *byte = 16 * digit(pair[0])? + digit(pair[1])?;
+        }
+        Some(Frame::of_bytes(bytes))
+    }
+
+    pub fn of_bytes(bytes: [u8; DIGITS / 2]) -> Frame {
+        let [party, operation, slot, destination, i0, i1, i2, i3, v0, v1, v2, v3] = bytes;
+        Frame {
+            party,
+            operation,
+            slot,
+            destination,
+            index: u32::from_be_bytes([i0, i1, i2, i3]),
+            value: u32::from_be_bytes([v0, v1, v2, v3]),
+        }
+    }
+
+    pub fn line(&self) -> String {
+        let Frame {
+            party,
+            operation,
+            slot,
+            destination,
+            index,
+            value,
+        } = self;
+        format!("{party:02X}{operation:02X}{slot:02X}{destination:02X}{index:08X}{value:08X}\n")
+    }
+}
+
+/// Capitals alone.
+fn digit(character: u8) -> Option<u8> {
+    match character {
+        b'0'..=b'9' => Some(character - b'0'),
+        b'A'..=b'F' => Some(character - b'A' + 10),
+        _ => None,
+    }
+}
+
+#[derive(Clone, Copy, Debug, PartialEq, Eq)]
+pub struct Answer {
+    pub number: u8,
+    pub fresh: u8,
+    pub value: u32,
+}
+
+impl Answer {
+    pub const OF_NO_FRAME: Answer = Answer::refused(NOT_A_FRAME);
+
+    pub fn done(fresh: u8, value: u32) -> Answer {
+        let number = DONE;
+        Answer {
+            number,
+            fresh,
+            value,
+        }
+    }
+
+    pub const fn refused(number: u8) -> Answer {
+        let (fresh, value) = (0, 0);
+        Answer {
+            number,
+            fresh,
+            value,
+        }
+    }
+
+    pub fn line(&self) -> String {
+        let Answer {
+            number,
+            fresh,
+            value,
+        } = self;
+        format!("{number:02X}{fresh:02X}{value:08X}\n")
+    }
+}
+
+#[cfg(test)]
+mod tests {
+    use super::*;
+
+    #[test]
+    fn a_frames_line_is_read_back() {
+        let line = b"01050203DEADBEEF0000ABCD\n";
+        let frame = Frame::of_line(line).expect("a frame");
+        assert_eq!((frame.party, frame.operation), (1, 5));
+        assert_eq!((frame.slot, frame.destination), (2, 3));
+        assert_eq!((frame.index, frame.value), (0xDEAD_BEEF, 0xABCD));
+        assert_eq!(frame.line().as_bytes(), line);
+    }
+
+    #[test]
+    fn other_lines_are_no_frames() {
+        let lines: [&[u8]; 9] = [
+            b"\n",
+            b"01050203DEADBEEF0000ABCD",
+            b"01050203DEADBEEF0000ABC\n",
+            b"01050203DEADBEEF0000ABCDE\n",
+            b"01050203DEADBEEF0000ABCD\r\n",
+            b"01050203deadbeef0000ABCD\n",
+            b"01050203DEADBEEF0000ABCG\n",
+            b"01050203DEADBEEF 000ABCD\n",
+            b"01050203DEADBEEF0000ABC\xFF\n",
+        ];
+        for line in lines {
+            assert_eq!(Frame::of_line(line), None, "{line:?}");
+        }
+    }
+}
