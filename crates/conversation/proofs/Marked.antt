@@ -1,35 +1,23 @@
 -- Marked lines on a running state: the state is that of their frames in order, the text what is printed of the frames' answers.
 use mathlib.Core.Path.{_≡_, refl, sym, ap, _∙_}
-use mathlib.Core.Bool.{Bool, true, false, cond}
-use mathlib.Core.List.{List, [], _∷_, _++_, append-assoc}
+use mathlib.Core.Bool.{Bool, true, false}
+use mathlib.Core.List.{List, [], _∷_}
 use Prim.Native.Nat.{ℕ}
 use lib.Dec.{eqb}
 use lib.ListN.{take, drop}
-use Rattle.meaning.specs.Limits.{frameSize, answerSize}
-use Rattle.meaning.specs.Frames.{Frame, Answer, toBytes, decode, encode}
+use Rattle.meaning.specs.Limits.{frameSize}
+use Rattle.meaning.specs.Frames.{decode}
 use Rattle.meaning.specs.Batch.{answerBytes}
-use Rattle.meaning.specs.Program.{Line, lineFeed, toHex, write}
+use Rattle.meaning.specs.Program.{Line, write}
 use Rattle.frames.specs.Run.{Run}
 use Rattle.frames.specs.Serve.{serve}
 use Rattle.serving.specs.Served.{serveAll}
 use Rattle.serving.specs.Lending.{framesIn}
-use Rattle.hexadecimal.specs.Text.{printedAnswer}
 use Rattle.lines.specs.Lines.{FRAME, markedLines, framesMarked}
 use Rattle.lines.specs.Printing.{printed}
 use Rattle.lines.proofs.Marks.{marked-frame, marked-other, counted-frame, counted-other, printed-frame, printed-other}
+use Rattle.lines.proofs.Talking.{line-printed, take-encoded, drop-encoded}
 use Rattle.conversation.specs.Conversing.{talkOn}
-
-line-printed : (bytes more : List ℕ) → printedAnswer bytes ++ more ≡ toHex bytes ++ (lineFeed ∷ more)
-unfolding printedAnswer
-line-printed bytes more = append-assoc (toHex bytes) (lineFeed ∷ []) more
-
-take-encoded : (a : Answer) (more : List ℕ) → take answerSize (encode a ++ more) ≡ encode a
-unfolding encode toBytes
-take-encoded a more = refl
-
-drop-encoded : (a : Answer) (more : List ℕ) → drop answerSize (encode a ++ more) ≡ more
-unfolding encode toBytes
-drop-encoded a more = refl
 
 -- of the frames of those marks
 abbrev stateAfter : Run → (marks requests : List ℕ) → Run

@@ -21,8 +21,7 @@ use Rattle.serving.specs.Lending.{framesIn}
 use Rattle.serving.proofs.Serving.{all-serve}
 use Rattle.runs.specs.Runs.{Progress, progress, runFrom, CanRun}
 use Rattle.runs.proofs.All.{run-all}
-use Rattle.hexadecimal.specs.Text.{printedSize}
-use Rattle.lines.specs.Lines.{FRAME, wholeLines, Keeps, markedLines, framesMarked}
+use Rattle.lines.specs.Lines.{FRAME, wholeLines, framesMarked}
 use Rattle.lines.specs.Reading.{Reads, CanRead, Bounded, ReadsPiece}
 use Rattle.lines.specs.Printing.{printed, CanPrint, Prints}
 use Rattle.lines.proofs.Marks.{printed-front}

@@ -41,15 +41,15 @@ after-append (other ∷ xs) ys free t = simp suc-add (after-append xs ys (λ n. 
 
 -- ---- marked lines
 
-line-printed : (bytes more : List ℕ) → printedAnswer bytes ++ more ≡ toHex bytes ++ (lineFeed ∷ more)
+pub line-printed : (bytes more : List ℕ) → printedAnswer bytes ++ more ≡ toHex bytes ++ (lineFeed ∷ more)
 unfolding printedAnswer
 line-printed bytes more = append-assoc (toHex bytes) (lineFeed ∷ []) more
 
-take-encoded : (a : Answer) (more : List ℕ) → take answerSize (encode a ++ more) ≡ encode a
+pub take-encoded : (a : Answer) (more : List ℕ) → take answerSize (encode a ++ more) ≡ encode a
 unfolding encode toBytes
 take-encoded a more = refl
 
-drop-encoded : (a : Answer) (more : List ℕ) → drop answerSize (encode a ++ more) ≡ more
+pub drop-encoded : (a : Answer) (more : List ℕ) → drop answerSize (encode a ++ more) ≡ more
 unfolding encode toBytes
 drop-encoded a more = refl
 

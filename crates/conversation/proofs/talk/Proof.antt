@@ -1,7 +1,6 @@
 -- `conversation::talk` meets its contract.
-use mathlib.Core.Path.{_≡_, refl}
+use mathlib.Core.Path.{refl}
 use native.Mathlib.Omega.{arith}
-use lib.ListN.{length}
 use borrow.Author.Needs.{needs}
 use Rattle.conversation.proofs.Piece.{can-read, can-run, can-print, talks}
 use Rattle.conversation.proofs.talk.Statement.{statement}
