@@ -97,7 +97,7 @@ module _ (s : Lent) (requests room : List ℕ) where
         unfolding batchChecks _if_ firstOf divides
         no-check = rw (eq-eqb (length requests % frameSize) 0 whole, le-ltb (length room) (answerSize * (length requests / frameSize)) fits)
 
-        served-as : batch true requests room (freeAt s frames) (tableOf s)
+        pub served-as : batch true requests room (freeAt s frames) (tableOf s)
             ≡ record { number = DONE; frames = length requests / frameSize; room = answerBytes (replies s frames) ++ drop (answerSize * (length requests / frameSize)) room; table = tableOf (afterAll s frames) }
         unfolding outcome
         served-as = demand2 .batches s requests room well-formed ∙ rw no-check

@@ -1,2 +1,3 @@
 pub mod Batching
 pub mod Strict
+pub mod Example
