@@ -11,13 +11,15 @@ use Rattle.meaning.specs.Lent.{Nodes, VersionRecord}
 use Rattle.meaning.specs.Shape.{height}
 use Rattle.meaning.specs.Trees.{heightOf}
 use Rattle.meaning.specs.Costs.{plain, newCost, setCost, pushCost, dropCost}
+use Rattle.records.specs.Records.{liveVersion, lengthened}
+use Rattle.records.specs.declared.Version.{Version}
 use Rattle.store.specs.Store.{Store}
 use Rattle.paths.specs.Edits.{Edit, edit, emptyLeaf, newEdit, setEdit, pushEdit, dropEdit}
 use Rattle.paths.specs.Paths.{Made}
 use Rattle.paths.specs.Ready.{madeOf}
 use Rattle.vector.specs.Calls.{Called, freeAfter, doneWith, refused, done, newCall, setCall, pushCall, dropCall}
 use Rattle.vector.specs.declared.Edited.{Edited}
-use Rattle.vector.specs.declared.Edited.the-variants.{BadBits, NothingThere, Full, NoNodes}
+use Rattle.vector.specs.declared.Edited.the-variants.{Done, BadBits, NothingThere, Full, NoNodes}
 
 -- a store by its parts, and an answer that says how much of it is free
 abbrev answered : Nodes → (counts order : List ℕ) → (free : ℕ) → Edited → Called
@@ -95,3 +97,9 @@ pub drop-done : (s : Store) (v : VersionRecord) (h : ℕ) (n : Nodes) (c o : Lis
 unfolding dropCall dropCost
 drop-done s v h n c o left m r l p f e q =
     done-answered n c o (s .free) left m (v .bits) (v .length - 1) (dropEdit s v) r e q ∙ rw (ne-eqb (v .length) 0 l, le-ltb (s .free) (heightOf v + 1) (omega arith))
+
+-- ---- a version made
+
+pub made-done : (v w : Version) (root bits length free left : ℕ) → v ≡ liveVersion root bits 0 → w ≡ lengthened v length
+    → Done (record { version = w; copied = free - left; free = left }) ≡ doneWith root bits length free left
+made-done v w root bits length free left p q = rw (q, p)

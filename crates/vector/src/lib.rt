@@ -40,12 +40,7 @@ fn done(made: Made, free: usize, bits: u32, length: u32) -> Edited
     requires { ⌜ Fell free (made .free) ⌝ }
     ensures { λ r. ⌜ r ≡ doneWith (made .node .0) bits length free (made .free) ⌝ }
 {
-    let version = Version {
-        live: 1,
-        root: made.node.0,
-        bits: bits,
-        length: length,
-    };
+    let version = Version::new_with_bits(bits, made.node).with_length(length);
     Edited::Done(Edit {
         version: version,
         copied: (free - made.free) as u32,
