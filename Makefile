@@ -6,15 +6,20 @@ SESSION = cargo run --quiet --release --offline -p session --
 # the driver holds our code against the original where its text is at hand, and against its recorded answers where it isn't
 WITH_ORIGINAL = $(if $(wildcard $(JUMPERLOFT_ORIGINAL)),--features original)
 DRIVE = cargo run --quiet --release --offline -p drive $(WITH_ORIGINAL) --
+PROGRAM = target/bin/jumperloft
+BUILD_PROGRAM = mkdir -p target; rt check jumperloft >target/program.log 2>&1 || { tail -20 target/program.log >&2; exit 1; }
+# what `make run` feeds the program: document 01's example, or another file of lines
+FRAMES ?= crates/jumperloft/stdin
 
-.PHONY: run test format kinds oracle drive soak bench-audit record
+.PHONY: run test format kinds oracle drive program soak bench-audit bench-program record
 
+# prints the program's output alone
 run:
-	@echo 'jumperloft: there is no program yet, only its meaning (crates/meaning) and its modules' >&2
-	@exit 1
+	@$(BUILD_PROGRAM)
+	@$(PROGRAM) <'$(FRAMES)'
 
 # what fails before the last line makes it fail; the last line is rt ci's
-test: format oracle kinds drive
+test: format oracle kinds drive program
 	@rt ci
 
 format:
@@ -36,7 +41,15 @@ drive:
 	else mkdir -p target; rt staticlib trial >target/staticlib.log 2>&1 || { tail -20 target/staticlib.log; exit 1; }; \
 	cd oracle && $(DRIVE) edits && $(DRIVE) walks && $(DRIVE) compare && $(DRIVE) audit --states 200000 --seed 1; fi
 
-# the same at length: two million damaged states
+# the program's answers to the recorded sessions, then all that `session program` tries, against the original
+program:
+	@$(BUILD_PROGRAM)
+	@sh tests/recorded_sessions.sh
+	@if ! command -v cargo >/dev/null 2>&1; then echo 'program: SKIPPED beyond the recorded sessions, there is no cargo on this machine'; \
+	elif ! [ -f "$$JUMPERLOFT_ORIGINAL" ]; then echo "program: SKIPPED beyond the recorded sessions, the original's text is not at $$JUMPERLOFT_ORIGINAL"; \
+	else cd oracle && $(SESSION) program ../$(PROGRAM); fi
+
+# the audit at length: two million damaged states
 soak:
 	@mkdir -p target; rt staticlib trial >target/staticlib.log 2>&1 || { tail -20 target/staticlib.log; exit 1; }
 	@cd oracle && $(DRIVE) audit --states 2000000 --seed 2
@@ -45,6 +58,10 @@ soak:
 bench-audit:
 	@mkdir -p target; rt staticlib trial >target/staticlib.log 2>&1 || { tail -20 target/staticlib.log; exit 1; }
 	@cd oracle && $(DRIVE) bench-audit
+
+bench-program:
+	@$(BUILD_PROGRAM)
+	@cd oracle && $(SESSION) mix 3000000 >../target/mix.lines && $(SESSION) bench ../$(PROGRAM) ../target/mix.lines
 
 # writes the recorded answers and sessions anew
 record:

@@ -1,12 +1,19 @@
 //! The program of document 01 made of the original's vectors, and sessions for it.
 
+mod bench;
+mod child;
 mod choice;
 mod count;
+mod edges;
 mod frame;
 mod lines;
 mod make;
+mod manners;
+mod mix;
 mod numbers;
+mod pieces;
 mod places;
+mod program;
 mod record;
 mod rng;
 mod rounds;
@@ -22,7 +29,10 @@ use std::{env, io};
 const USAGE: &str = "usage: session answer <LINES >ANSWERS
        session make SEED COUNT >LINES
        session count <LINES
-       session record DIR | session recorded DIR";
+       session record DIR | session recorded DIR
+       session program PATH [--seeds A..B] [--lines COUNT]
+       session mix COUNT >LINES
+       session bench PATH LINES";
 
 fn main() -> ExitCode {
     let arguments: Vec<String> = env::args().skip(1).collect();
@@ -53,8 +63,27 @@ fn run(arguments: &[&str]) -> Option<io::Result<bool>> {
         }
         ["record", directory] => Some(record::write(Path::new(directory))),
         ["recorded", directory] => Some(record::compare(Path::new(directory))),
+        ["program", path, options @ ..] => held(Path::new(path), options),
+        ["mix", count] => Some(print(&mix::mix(count.parse().ok()?))),
+        ["bench", path, input] => Some(bench::bench(Path::new(path), Path::new(input))),
         _ => None,
     }
+}
+
+/// Seeds go from A to one below B.
+fn held(path: &Path, options: &[&str]) -> Option<io::Result<bool>> {
+    let (mut seeds, mut count) = (program::SEEDS, program::LINES);
+    for option in options.chunks(2) {
+        match option {
+            ["--seeds", range] => {
+                let (first, beyond) = range.split_once("..")?;
+                seeds = first.parse().ok()?..beyond.parse().ok()?;
+            }
+            ["--lines", number] => count = number.parse().ok()?,
+            _ => return None,
+        }
+    }
+    Some(program::hold(path, seeds, count))
 }
 
 /// Prints what is to be told of the input.

@@ -1,7 +1,8 @@
 //! An open walk: a list held by it, and the original's double-ended iterator over that list.
 
 use archery::CountingK;
-use original::Vector;
+use original::vector::{Iter, Vector};
+use std::rc::Rc;
 
 pub type List = Vector<u32, CountingK>;
 
@@ -11,17 +12,20 @@ pub enum End {
     Back,
 }
 
-/// The original's iterator borrows its list and can't be kept beside it, so the ends of the steps done are kept and each step does them again.
+/// The iterator stands first, so that it is dropped before the list that it borrows.
 pub struct Walk {
-    list: List,
-    done: Vec<End>,
+    iterator: Iter<'static, u32, CountingK>,
+    list: Rc<List>,
 }
 
 impl Walk {
     pub fn on(list: &List) -> Walk {
+        let list = Rc::new(list.clone());
+        // SAFETY: the list stays where it is, unchanged, until the iterator is dropped, which never leaves the walk
+        let held: &'static List = unsafe { &*Rc::as_ptr(&list) };
         Walk {
-            list: list.clone(),
-            done: Vec::new(),
+            iterator: held.iter(),
+            list,
         }
     }
 
@@ -31,19 +35,10 @@ impl Walk {
 
     /// None once each element was taken, for ever.
     pub fn step(&mut self, end: End) -> Option<u32> {
-        let mut iterator = self.list.iter();
-        for done in &self.done {
-            take(&mut iterator, *done);
-        }
-        let element = *take(&mut iterator, end)?;
-        self.done.push(end);
-        Some(element)
-    }
-}
-
-fn take<I: DoubleEndedIterator>(iterator: &mut I, end: End) -> Option<I::Item> {
-    match end {
-        End::Front => iterator.next(),
-        End::Back => iterator.next_back(),
+        let element = match end {
+            End::Front => self.iterator.next(),
+            End::Back => self.iterator.next_back(),
+        };
+        element.copied()
     }
 }
