@@ -1,0 +1,20 @@
+-- Each number by the tests that led to it.
+use borrow.Author.Needs.{needs}
+use Rattle.host.proofs.Batching.{ragged-number, room-number, table-number}
+use Rattle.host.proofs.refusal_of_sizes.Statement.{statement}
+use Rattle.host.proofs.refusal_of_sizes.Tie as tie
+
+returns : tie.Need-returns
+returns c = ragged-number _ _ (c .if1 .taken)
+
+mul-if2 : tie.Need-mul-if2
+mul-if2 c = search needs
+
+returns-2 : tie.Need-returns-2
+returns-2 c = room-number _ _ (c .before .if1 .left) (c .if2 .taken)
+
+returns-3 : tie.Need-returns-3
+returns-3 c = table-number _ _ (c .before .if1 .left) (c .if2 .left)
+
+pub refusal-of-sizes-spec : {M : Type 1} → statement M
+refusal-of-sizes-spec = tie.close (tie.spec returns mul-if2 returns-2 returns-3)

@@ -1,0 +1,224 @@
+// What a host and its plug-ins link: the calls, over what a host lends.
+use records::Version;
+use version_table::store_table;
+use version_table::table_of;
+ghost use mathlib.Core.Path.{_≡_};
+ghost use Rattle.form.specs.Forms.{lentOf, Forms};
+ghost use Rattle.batch.specs.Batched.{Batches};
+ghost use Rattle.host.specs.Reports.{doneWith, FormsOf, refusalOf, BatchesOf};
+
+const SLOTS: usize = 64;
+
+const FRAME_SIZE: usize = 12;
+
+const ANSWER_SIZE: usize = 6;
+
+// ---- numbers given back
+
+const DONE: u8 = 0;
+
+const ILL_FORMED: u8 = 11;
+
+const NO_ROOM: u8 = 12;
+
+const RAGGED: u8 = 13;
+
+// What a call reports: the number given back, and how many frames ran.
+#[repr(C)]
+pub struct Report {
+    pub number: u32,
+    pub frames: usize,
+}
+
+// The report, whether the table is to be stored, and the table.
+pub struct Done {
+    pub report: Report,
+    pub stores: bool,
+    pub versions: [Version; SLOTS],
+}
+
+fn done_with(number: u8, frames: usize, versions: [Version; SLOTS]) -> Done
+    ensures { λ r. ⌜ r ≡ doneWith number frames versions ⌝ }
+{
+    let report = Report {
+        number: number as u32,
+        frames: frames,
+    };
+    Done {
+        report: report,
+        stores: number == DONE,
+        versions: versions,
+    }
+}
+
+// Forming, with the table by value and the number of records that it was copied from.
+fn form_table(
+    kinds: &mut [u8],
+    used: &mut [u8],
+    counts: &mut [u32],
+    cells: &[u32],
+    order: &mut [u32],
+    count: usize,
+    versions: [Version; SLOTS],
+    walk_numbers: &mut [u32],
+    walk_nodes: &mut [u32],
+    walk_indices: &mut [i32],
+) -> Done
+    ensures { λ r. ⌜ FormsOf count
+        (lentOf (now (kinds .entry)) (now (used .entry)) (now (counts .entry)) (now (cells .entry)) (now (order .entry)) versions
+        (now («walk_numbers» .entry)) (now («walk_nodes» .entry)) (now («walk_indices» .entry)))
+        (lentOf (now (kinds .exit)) (now (used .exit)) (now (counts .exit)) (now (cells .entry)) (now (order .exit)) (r .versions)
+        (now («walk_numbers» .exit)) (now («walk_nodes» .exit)) (now («walk_indices» .exit))) r ⌝ }
+{
+    if count != SLOTS {
+        return done_with(ILL_FORMED, 0, versions);
+    }
+    let r = form::form(
+        kinds,
+        used,
+        counts,
+        cells,
+        order,
+        versions,
+        walk_numbers,
+        walk_nodes,
+        walk_indices,
+    );
+    let table = r.versions;
+    done_with(r.number, 0, table)
+}
+
+// A fresh state in what is lent.
+#[no_mangle]
+pub extern "C" fn jumperloft1_form(
+    kinds: &mut [u8],
+    used: &mut [u8],
+    counts: &mut [u32],
+    cells: &[u32],
+    order: &mut [u32],
+    versions: &mut [Version],
+    walk_numbers: &mut [u32],
+    walk_nodes: &mut [u32],
+    walk_indices: &mut [i32],
+) -> Report
+    ensures { λ r. ⌜ Forms
+        (lentOf (now (kinds .entry)) (now (used .entry)) (now (counts .entry)) (now (cells .entry)) (now (order .entry)) (now (versions .entry))
+        (now («walk_numbers» .entry)) (now («walk_nodes» .entry)) (now («walk_indices» .entry)))
+        (lentOf (now (kinds .exit)) (now (used .exit)) (now (counts .exit)) (now (cells .entry)) (now (order .exit)) (now (versions .exit))
+        (now («walk_numbers» .exit)) (now («walk_nodes» .exit)) (now («walk_indices» .exit))) (r .number) × (r .frames ≡ 0) ⌝ }
+{
+    let count = versions.len();
+    let table = table_of(versions);
+    let r = form_table(
+        kinds,
+        used,
+        counts,
+        cells,
+        order,
+        count,
+        table,
+        walk_numbers,
+        walk_nodes,
+        walk_indices,
+    );
+    store_table(versions, r.versions, r.stores);
+    r.report
+}
+
+// The number of a batch whose table has another length.
+fn refusal_of_sizes(asked: usize, room: usize) -> u8
+    ensures { λ r. ⌜ r ≡ refusalOf asked room ⌝ }
+{
+    if asked % FRAME_SIZE != 0 {
+        return RAGGED;
+    }
+    if room < ANSWER_SIZE * (asked / FRAME_SIZE) {
+        return NO_ROOM;
+    }
+    ILL_FORMED
+}
+
+// A batch, with the table by value and the number of records that it was copied from.
+fn batch_table(
+    kinds: &mut [u8],
+    used: &mut [u8],
+    counts: &mut [u32],
+    cells: &mut [u32],
+    order: &mut [u32],
+    count: usize,
+    versions: [Version; SLOTS],
+    walk_numbers: &mut [u32],
+    walk_nodes: &mut [u32],
+    walk_indices: &mut [i32],
+    requests: &[u8],
+    room: &mut [u8],
+) -> Done
+    ensures { λ r. ⌜ BatchesOf count
+        (lentOf (now (kinds .entry)) (now (used .entry)) (now (counts .entry)) (now (cells .entry)) (now (order .entry)) versions
+        (now («walk_numbers» .entry)) (now («walk_nodes» .entry)) (now («walk_indices» .entry)))
+        (lentOf (now (kinds .exit)) (now (used .exit)) (now (counts .exit)) (now (cells .exit)) (now (order .exit)) (r .versions)
+        (now («walk_numbers» .exit)) (now («walk_nodes» .exit)) (now («walk_indices» .exit)))
+        (now (requests .entry)) (now (room .entry)) (now (room .exit)) r ⌝ }
+{
+    if count != SLOTS {
+        let number = refusal_of_sizes(requests.len(), room.len());
+        return done_with(number, 0, versions);
+    }
+    let r = batch::batch(
+        kinds,
+        used,
+        counts,
+        cells,
+        order,
+        versions,
+        walk_numbers,
+        walk_nodes,
+        walk_indices,
+        requests,
+        room,
+    );
+    let table = r.versions;
+    done_with(r.number, r.frames, table)
+}
+
+// The frames of the requests, each answered at its 6 bytes of the room. A batch that is refused writes nothing.
+#[no_mangle]
+pub extern "C" fn jumperloft1_batch(
+    kinds: &mut [u8],
+    used: &mut [u8],
+    counts: &mut [u32],
+    cells: &mut [u32],
+    order: &mut [u32],
+    versions: &mut [Version],
+    walk_numbers: &mut [u32],
+    walk_nodes: &mut [u32],
+    walk_indices: &mut [i32],
+    requests: &[u8],
+    room: &mut [u8],
+) -> Report
+    ensures { λ r. ⌜ Batches
+        (lentOf (now (kinds .entry)) (now (used .entry)) (now (counts .entry)) (now (cells .entry)) (now (order .entry)) (now (versions .entry))
+        (now («walk_numbers» .entry)) (now («walk_nodes» .entry)) (now («walk_indices» .entry)))
+        (lentOf (now (kinds .exit)) (now (used .exit)) (now (counts .exit)) (now (cells .exit)) (now (order .exit)) (now (versions .exit))
+        (now («walk_numbers» .exit)) (now («walk_nodes» .exit)) (now («walk_indices» .exit)))
+        (now (requests .entry)) (now (room .entry)) (now (room .exit)) (r .number) (r .frames) ⌝ }
+{
+    let count = versions.len();
+    let table = table_of(versions);
+    let r = batch_table(
+        kinds,
+        used,
+        counts,
+        cells,
+        order,
+        count,
+        table,
+        walk_numbers,
+        walk_nodes,
+        walk_indices,
+        requests,
+        room,
+    );
+    store_table(versions, r.versions, r.stores);
+    r.report
+}
