@@ -1,4 +1,6 @@
 // What a host and its plug-ins link: the calls, over what a host lends.
+mod sizes;
+
 use records::Version;
 use version_table::store_table;
 use version_table::table_of;
@@ -109,7 +111,7 @@ pub extern "C" fn jumperloft1_form(
 {
     let count = versions.len();
     let table = table_of(versions);
-    let r = form_table(
+    let formed = form_table(
         kinds,
         used,
         counts,
@@ -121,8 +123,8 @@ pub extern "C" fn jumperloft1_form(
         walk_nodes,
         walk_indices,
     );
-    store_table(versions, r.versions, r.stores);
-    r.report
+    store_table(versions, formed.versions, formed.stores);
+    formed.report
 }
 
 // The number of a batch whose table has another length.
@@ -205,7 +207,7 @@ pub extern "C" fn jumperloft1_batch(
 {
     let count = versions.len();
     let table = table_of(versions);
-    let r = batch_table(
+    let ran = batch_table(
         kinds,
         used,
         counts,
@@ -219,6 +221,6 @@ pub extern "C" fn jumperloft1_batch(
         requests,
         room,
     );
-    store_table(versions, r.versions, r.stores);
-    r.report
+    store_table(versions, ran.versions, ran.stores);
+    ran.report
 }

@@ -1,0 +1,68 @@
+// How much a host lends.
+ghost use mathlib.Core.Path.{_≡_};
+ghost use Rattle.host.specs.Lending.{noSizes, Sized};
+
+const MAX_NODES: usize = 65536;
+
+const NODE_CELLS: usize = 32;
+
+const SLOTS: usize = 64;
+
+// Of sixteen walks, each with six numbers, and with two stacks of fifteen levels.
+const WALK_NUMBERS: usize = 16 * 6;
+
+const WALK_LEVELS: usize = 16 * 2 * 15;
+
+// How many elements each slice has.
+#[repr(C)]
+pub struct Sizes {
+    pub nodes: usize,
+    pub used: usize,
+    pub cells: usize,
+    pub counts: usize,
+    pub order: usize,
+    pub versions: usize,
+    pub walk_numbers: usize,
+    pub walk_nodes: usize,
+    pub walk_indices: usize,
+}
+
+fn no_sizes() -> Sizes
+    ensures { λ r. ⌜ r ≡ noSizes ⌝ }
+{
+    Sizes {
+        nodes: 0,
+        used: 0,
+        cells: 0,
+        counts: 0,
+        order: 0,
+        versions: 0,
+        walk_numbers: 0,
+        walk_nodes: 0,
+        walk_indices: 0,
+    }
+}
+
+// Of a state of so many nodes; all 0 where there is none.
+#[no_mangle]
+pub extern "C" fn jumperloft1_sizes(nodes: usize) -> Sizes
+    ensures { λ r. ⌜ Sized nodes r ⌝ }
+{
+    if nodes == 0 {
+        return no_sizes();
+    }
+    if MAX_NODES < nodes {
+        return no_sizes();
+    }
+    Sizes {
+        nodes: nodes,
+        used: nodes,
+        cells: NODE_CELLS * nodes,
+        counts: nodes,
+        order: nodes,
+        versions: SLOTS,
+        walk_numbers: WALK_NUMBERS,
+        walk_nodes: WALK_LEVELS,
+        walk_indices: WALK_LEVELS,
+    }
+}
