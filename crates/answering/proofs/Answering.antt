@@ -1,24 +1,23 @@
 -- A turn of the code is what the model serves.
 use mathlib.Core.Path.{_≡_, refl, sym, ap, _∙_}
 use mathlib.Core.Logic.{_≢_}
-use Prim.Native.Nat.{ℕ, zero, suc, _≤_, _<_}
+use Prim.Native.Nat.{ℕ, zero, suc, _≤_}
 use native.Mathlib.Nat.{lt-irrefl}
 use native.Mathlib.Decide.{ℕ-discrete}
 use native.Mathlib.Omega.{arith}
-use lib.ListN.{getD}
 use borrow.Author.Tests.{ltb-false, eq-eqb, ne-eqb}
-use Rattle.meaning.specs.Limits.{DONE, parties, lastOperation}
+use Rattle.meaning.specs.Limits.{DONE, lastOperation}
 use Rattle.meaning.specs.Frames.{Frame}
-use Rattle.meaning.specs.Operations.{new, clone, release, set-at, push-back, drop-last, open-walk, next, next-back, close-walk, hand-over, unknown, operations, anyone, hostAlone, uses, ownerOr, opOf, giver, taker, source, filled, walked, opened}
+use Rattle.meaning.specs.Operations.{new, clone, release, set-at, push-back, drop-last, open-walk, next, next-back, close-walk, hand-over, operations, anyone, hostAlone, uses, ownerOr, opOf, giver, taker}
 use Rattle.meaning.specs.Checks.{firstOf}
 use Rattle.meaning.specs.Serve.{refused}
 use Rattle.frames.specs.Run.{Run, sourceIn, targetIn}
-use Rattle.frames.specs.Seen.{seenIn, entryChecks, findChecks, seenChecks}
+use Rattle.frames.specs.Seen.{seenIn, entryChecks, findChecks}
 use Rattle.frames.specs.Serve.{done, verdict, respond, serve}
 use Rattle.edits.specs.Edits.{pathAct, editAct}
 use Rattle.calls.specs.Reads.{readWith}
-use Rattle.calls.specs.Walks.{acted, walkAct}
-use Rattle.calls.specs.Calls.{withWalks, readAct, storeAct, act}
+use Rattle.calls.specs.Walks.{walkAct}
+use Rattle.calls.specs.Calls.{readAct, storeAct, act}
 use Rattle.turns.specs.Turns.{entryNumber, turn}
 use Rattle.serving.specs.States.{Runs}
 use Rattle.serving.specs.Passed.{Entered}

@@ -1,11 +1,10 @@
 -- A turn of an operation that edits.
 use mathlib.Core.Path.{_≡_, refl, sym, ap, _∙_}
 use mathlib.Core.Bool.{Bool, true, false, cond, not, _&&_}
-use Prim.Native.Nat.{ℕ, _-_, _<_}
+use Prim.Native.Nat.{_-_, _<_}
 use native.Mathlib.Omega.{arith}
 use lib.Dec.{leb, ltb, eqb}
 use Rattle.meaning.specs.Limits.{parties, maxBits, maxLength}
-use Rattle.meaning.specs.Lent.{VersionRecord}
 use Rattle.meaning.specs.Frames.{Frame}
 use Rattle.meaning.specs.Operations.{Op, new, clone, release, set-at, push-back, drop-last, hand-over, anyone, hostAlone, uses, giver, taker}
 use Rattle.meaning.specs.Costs.{newCost, setCost, pushCost, dropCost, plain, cost}

@@ -6,13 +6,12 @@ use Prim.Native.Nat.{ℕ, _-_, _≤_, _<_}
 use native.Mathlib.Omega.{arith}
 use lib.Dec.{leb, eqb}
 use borrow.Author.Tests.{leb-true, leb-false, eqb-true, eqb-false, lt-ltb, le-ltb}
-use Rattle.meaning.specs.Counting.{rows}
 use Rattle.meaning.specs.Lent.{Nodes, VersionRecord}
 use Rattle.meaning.specs.Trees.{heightOf, element, contents}
 use Rattle.meaning.specs.Frames.{Frame}
 use Rattle.meaning.specs.Operations.{len, get, free-nodes, first, last, compare, anyone, hostAlone, uses}
 use Rattle.meaning.specs.Checks.{_if_, firstOf}
-use Rattle.meaning.specs.Effects.{Sign, before, same, after, order, signed}
+use Rattle.meaning.specs.Effects.{Sign, before, same, after, order}
 use Rattle.meaning.specs.Serve.{refused}
 use Rattle.meaning.proofs.Rows.{rows-agree}
 use Rattle.lookup.specs.Lookup.{elementIn, got}

@@ -1,5 +1,5 @@
 -- A turn of an operation on a walk.
-use mathlib.Core.Path.{_≡_, refl, sym, ap, _∙_}
+use mathlib.Core.Path.{_≡_, refl, ap}
 use mathlib.Core.Bool.{Bool, true, false, cond}
 use mathlib.Core.List.{[], _∷_}
 use Prim.Native.Nat.{ℕ, _+_, _-_, _*_, _<_}
@@ -8,7 +8,7 @@ use lib.Dec.{eqb}
 use lib.ListN.{set}
 use Rattle.meaning.specs.Limits.{parties, walkNumbers}
 use Rattle.meaning.specs.Counting.{bit}
-use Rattle.meaning.specs.Lent.{VersionRecord, WalkSlices, WalkRecord, walkRecord}
+use Rattle.meaning.specs.Lent.{WalkSlices, WalkRecord, walkRecord}
 use Rattle.meaning.specs.Frames.{Frame}
 use Rattle.meaning.specs.Operations.{open-walk, next, next-back, close-walk, anyone, uses, giver, taker}
 use Rattle.meaning.specs.Costs.{plain, cost}
@@ -18,7 +18,7 @@ use Rattle.lookup.specs.declared.Got.the-variants.{Element, Nothing}
 use Rattle.store.specs.Store.{raised}
 use Rattle.sweep.specs.Sweep as sweep
 use Rattle.levels.specs.Levels.{Taken}
-use Rattle.walk.specs.Walk.{Step, stepped, versionIn, isEnded, takenAt, takenOf, takenBy}
+use Rattle.walk.specs.Walk.{stepped, versionIn, isEnded, takenAt, takenOf, takenBy}
 use Rattle.walk.specs.Walk as walk
 use Rattle.frames.specs.Run.{Run, walkPlace, sourceIn, walkedIn}
 use Rattle.frames.specs.Charges.{chargeOf}

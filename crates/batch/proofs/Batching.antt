@@ -1,30 +1,28 @@
 -- Each end of a batch is the one that is promised.
 use mathlib.Core.Path.{_≡_, refl, sym, ap, _∙_}
 use mathlib.Core.Logic.{_≢_, _↔_}
-use mathlib.Core.Bool.{Bool, true, false, cond, not, false≢true}
+use mathlib.Core.Bool.{Bool, true, false, cond, not}
 use mathlib.Core.List.{List, _++_}
 use Prim.Native.Nat.{ℕ, suc, _*_, _/_, _%_, _≤_, _<_}
 use lib.ListN.{length, drop}
-use lib.Dec.{eqb, ltb}
 use lib.IntN.{ℤ}
 use borrow.Author.Tests.{eq-eqb, ne-eqb, lt-ltb, le-ltb}
 use Rattle.meaning.specs.Limits.{frameSize, answerSize, DONE}
 use Rattle.meaning.specs.Counting.{divides}
 use Rattle.meaning.specs.Lent.{VersionRecord, Lent, freeNodes}
 use Rattle.meaning.specs.WellFormed.{WellFormed}
-use Rattle.meaning.specs.Table.{Table}
 use Rattle.meaning.specs.Stands.{tableOf}
 use Rattle.meaning.specs.Frames.{Frame}
 use Rattle.meaning.specs.Checks.{_if_, firstOf}
-use Rattle.meaning.specs.Serve.{Reply, run}
-use Rattle.meaning.specs.Batch.{batchChecks, callsIn, answerBytes, Outcome, outcome, batch}
+use Rattle.meaning.specs.Serve.{run}
+use Rattle.meaning.specs.Batch.{batchChecks, answerBytes, outcome, batch}
 use Rattle.upkeep.proofs.Doors.{well-formed-runs}
 use Rattle.records.specs.declared.Version.{Version}
 use Rattle.store.specs.Store.{Store}
 use Rattle.walk.specs.Walk.{slices}
 use Rattle.audit.specs.Audited.{lentOf, Judged}
 use Rattle.frames.specs.Run.{Run}
-use Rattle.serving.specs.States.{lentIn, runIn, Runs}
+use Rattle.serving.specs.States.{lentIn, runIn}
 use Rattle.serving.specs.Served.{serveAll}
 use Rattle.serving.specs.Lending.{afterAll, replies, freeAt}
 use Rattle.serving.proofs.Demands.{demand2}

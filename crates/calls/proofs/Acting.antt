@@ -2,12 +2,11 @@
 use mathlib.Core.Path.{_≡_, refl, sym, ap, _∙_}
 use mathlib.Core.Logic.{_≢_}
 use mathlib.Core.Bool.{Bool, true, false, cond, _||_, false≢true}
-use mathlib.Core.List.{List, [], _∷_}
+use mathlib.Core.List.{List}
 use Prim.Native.Nat.{ℕ, _-_}
 use lib.Dec.{eqb}
-use lib.IntN.{ℤ}
 use borrow.Author.Tests.{eq-eqb, ne-eqb, eqb-true}
-use Rattle.meaning.specs.Lent.{Nodes, VersionRecord, WalkSlices}
+use Rattle.meaning.specs.Lent.{VersionRecord, WalkSlices}
 use Rattle.meaning.specs.Frames.{Frame}
 use Rattle.meaning.specs.Serve.{refused}
 use Rattle.meaning.specs.Operations.{operations, anyone, hostAlone, uses}
@@ -18,18 +17,18 @@ use Rattle.lookup.specs.declared.Got.the-variants.{Element, Nothing}
 use Rattle.lookup.specs.Lookup.{got}
 use Rattle.compare.specs.Compare.{ordering}
 use Rattle.compare.specs.declared.Ordering.{Ordering}
-use Rattle.store.specs.Store.{Store, storeOf, raises}
+use Rattle.store.specs.Store.{Store, raises}
 use Rattle.sweep.specs.Sweep as sweep
 use Rattle.sweep.specs.Ready.{Releasable}
-use Rattle.walk.specs.Walk.{Step, stepped, slices, stored, openRecord, versionIn, opened, closed, takenBy}
+use Rattle.walk.specs.Walk.{Step, stepped, slices, versionIn, opened, closed, takenBy}
 use Rattle.requests.specs.Numbers.{NEW, CLONE, RELEASE, LEN, GET, SET, PUSH-BACK, DROP-LAST, OPEN-WALK, NEXT-BACK, CLOSE-WALK, HAND-OVER, FIRST, LAST, COMPARE}
 use Rattle.served.specs.Served.{answeredWith, gotWith, orderedWith}
 use Rattle.served.specs.Acted.{Acted, actedOf}
 use Rattle.served.specs.declared.Served.{Served}
-use Rattle.edits.specs.Edits.{valued, releasedAct, editAct}
+use Rattle.edits.specs.Edits.{releasedAct, editAct}
 use Rattle.calls.specs.Reads.{isSource, sourced, readWith}
 use Rattle.calls.specs.Walks.{usedPlace, openedPlace, Opens, Closes, Steps, WalkActed, withWalks, answerOf, walkAct}
-use Rattle.calls.specs.Calls.{isEdit, isWalk, versionOf, readAct, storeAct, act}
+use Rattle.calls.specs.Calls.{isEdit, isWalk, readAct, storeAct, act}
 
 -- ---- operations that read a version
 

@@ -5,7 +5,7 @@ use Prim.Native.Nat.{ℕ, _≤_}
 use lib.Dec.{eqb}
 use Rattle.meaning.specs.Limits.{maxNodes}
 use Rattle.meaning.specs.Lent.{VersionRecord, WalkSlices}
-use Rattle.meaning.specs.Frames.{Frame, Answer}
+use Rattle.meaning.specs.Frames.{Frame}
 use Rattle.shape.specs.Legal.{Legal}
 use Rattle.records.specs.declared.Version.{Version}
 use Rattle.store.specs.Store.{Store}

@@ -1,11 +1,11 @@
 -- What the operations on walks make of the store and of the walk records.
 use mathlib.Core.Path.{_≡_}
 use mathlib.Core.Logic.{_≢_}
-use mathlib.Core.Bool.{Bool, cond}
+use mathlib.Core.Bool.{cond}
 use mathlib.Core.List.{List, [], _∷_}
 use Prim.Native.Nat.{ℕ, _+_, _*_, _%_}
 use lib.Dec.{eqb}
-use Rattle.meaning.specs.Limits.{parties, partyWalks, DONE, NOTHING-THERE}
+use Rattle.meaning.specs.Limits.{parties, partyWalks, NOTHING-THERE}
 use Rattle.meaning.specs.Lent.{VersionRecord, WalkSlices}
 use Rattle.meaning.specs.Frames.{Frame, Answer}
 use Rattle.meaning.specs.Serve.{refused}

@@ -1,12 +1,12 @@
 -- All frames in order: the state that the model serves them to, and every byte of the answer room.
-use mathlib.Core.Path.{_≡_, refl, sym, ap, _∙_}
-use mathlib.Core.List.{List, [], _∷_, _++_, append-assoc}
+use mathlib.Core.Path.{_≡_, refl, sym, _∙_}
+use mathlib.Core.List.{List, [], _++_, append-assoc}
 use Prim.Native.Nat.{ℕ, zero, suc, _+_, _*_}
 use native.Mathlib.Omega.{arith}
-use lib.ListN.{length, take, drop, length-append}
+use lib.ListN.{length, drop, length-append}
 use lib.Seq.{take-at, drop-at, drop-drop}
 use Rattle.meaning.specs.Limits.{frameSize, answerSize}
-use Rattle.meaning.specs.Frames.{Frame, Answer, encode}
+use Rattle.meaning.specs.Frames.{Frame, encode}
 use Rattle.meaning.specs.Batch.{answerBytes}
 use Rattle.requests.specs.Requests.{put}
 use Rattle.requests.proofs.Bytes.{encode-length}

@@ -4,7 +4,6 @@ use mathlib.Core.Bool.{Bool, true, false, cond, _&&_}
 use mathlib.Core.List.{List, [], _∷_}
 use Prim.Native.Nat.{ℕ, zero, suc, _+_, _-_, _*_, _≤_, _<_}
 use native.Mathlib.Decide.{decLt}
-use native.Mathlib.Numerals.{add-one}
 use native.Mathlib.Omega.{arith}
 use lib.Dec.{ltb, eqb}
 use lib.ListN.{length, getD, set, List·getD-map}
@@ -27,7 +26,7 @@ use Rattle.calls.specs.Calls.{withWalks}
 use Rattle.turns.specs.Turns.{slots, placeOf, changedIn, Turnable, turn}
 use Rattle.serving.specs.States.{Runs}
 use Rattle.serving.proofs.Serving.{frame-serves}
-use Rattle.answering.specs.Turned.{changedPlace, oldIn, turned}
+use Rattle.answering.specs.Turned.{oldIn, turned}
 use Rattle.answering.proofs.Ready.{turn-able}
 use Rattle.answering.proofs.Calling.{place-here}
 use Rattle.answering.proofs.Answering.{turn-serves}

@@ -1,7 +1,7 @@
 -- Each answer of a call as a frame's: the assembly of what the code tells of it.
-use mathlib.Core.Path.{_≡_, refl, sym, ap, _∙_}
+use mathlib.Core.Path.{_≡_, refl, ap, _∙_}
 use mathlib.Core.List.{List}
-use Prim.Native.Nat.{ℕ, _%_}
+use Prim.Native.Nat.{ℕ}
 use Rattle.meaning.specs.Effects.{signed}
 use Rattle.records.specs.Records.{recordOf}
 use Rattle.records.specs.declared.Version.{Version}
@@ -14,7 +14,7 @@ use Rattle.vector.specs.declared.Edited.{Edited}
 use Rattle.vector.specs.declared.Edited.the-variants.{Done, BadBits, NothingThere, Full, NoNodes}
 use Rattle.served.specs.declared.Served.{Served}
 use Rattle.served.specs.Served.{answeredWith, editedWith, gotWith, orderedWith}
-use Rattle.served.specs.Acted.{Acted, actedOf, edited}
+use Rattle.served.specs.Acted.{actedOf, edited}
 
 -- ---- what a variant tells
 
