@@ -1,0 +1,65 @@
+//! A persistent vector over nodes that a host lends, shared by up to eight parties, none of which can hurt another.
+//!
+//! The work is done by a library every function of which is proved to meet its contract; this crate makes its calls safe and typed
+//! for Rust. What each call answers, refuses and costs is decided by document 01 of the project.
+//!
+//! ```
+//! use jumperloft::{Party, Refusal, Slot, State, Walk, DEFAULT_BITS};
+//!
+//! let mut state = State::new(256)?;
+//! let mut plug_in = state.party(Party::new(1)?);
+//! let ([empty, one, two, ..], [walk, _]) = (Slot::ALL, Walk::ALL);
+//!
+//! plug_in.new_vector(empty, DEFAULT_BITS)?;
+//! plug_in.push_back(empty, one, 7)?;
+//! let edited = plug_in.push_back(one, two, 9)?;
+//!
+//! assert_eq!(edited.fresh, 1);
+//! assert_eq!(plug_in.len(one)?, 1);
+//! assert_eq!(plug_in.values(two, walk)?.rev().collect::<Vec<u32>>(), [9, 7]);
+//! assert_eq!(plug_in.get(two, 2), Err(Refusal::NothingThere));
+//! # Ok::<(), Refusal>(())
+//! ```
+//!
+//! # Who holds what
+//!
+//! [`State`] owns its memory. [`StateRef`] is a state in [`Memory`] that someone else lends. Both give a [`PartyHandle`], which can
+//! speak for one party alone and so may be lent to a plug-in, and a [`Host`], which may also hand versions over and count free nodes.
+//!
+//! # What a call costs
+//!
+//! Each call audits the whole state first, so it takes time by the number of nodes; a [`Batch`] audits once for all of its frames,
+//! and [`Values`] takes elements many at a time. The audit needs 523 KiB of stack. A refused call has changed nothing.
+
+#![deny(unsafe_op_in_unsafe_fn, missing_docs, unsafe_code)]
+
+mod answer;
+mod batch;
+#[allow(unsafe_code)]
+mod ffi;
+mod frame;
+mod host;
+mod memory;
+mod numbers;
+mod party;
+mod refusal;
+mod state;
+mod values;
+mod walks;
+
+pub use answer::{Answer, Edited, Served};
+pub use batch::Batch;
+pub use frame::{Frame, Operation};
+pub use host::Host;
+pub use memory::{Memory, Version};
+pub use numbers::{Party, Slot, Walk};
+pub use party::PartyHandle;
+pub use refusal::Refusal;
+pub use state::{State, StateRef};
+pub use values::Values;
+
+/// The bits of a vector whose maker doesn't care: nodes of 32 cells.
+pub const DEFAULT_BITS: u32 = 5;
+
+/// The greatest length of a vector.
+pub const MOST_ELEMENTS: usize = 32_768;

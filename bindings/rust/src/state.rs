@@ -1,0 +1,221 @@
+//! A state, in memory of its own or in what is lent.
+
+use crate::ffi::{self, Report};
+use crate::{Answer, Batch, Frame, Host, Memory, Party, PartyHandle, Refusal, Served, Version};
+
+const NUMBERS_KEPT: &str = "the library gives back document 01's numbers alone";
+
+/// A state in memory that someone else lends.
+#[derive(Debug)]
+pub struct StateRef<'a> {
+    memory: Memory<'a>,
+}
+
+impl<'a> StateRef<'a> {
+    /// A fresh state: all slots empty, all walks closed, all nodes free. Slices that don't fit are refused with
+    /// [`Refusal::IllFormed`] and stay as they are.
+    ///
+    /// ```
+    /// use jumperloft::{Memory, Refusal, StateRef, Version};
+    ///
+    /// const NODES: usize = 64;
+    /// let memory = Memory {
+    ///     kinds: &mut [0; NODES],
+    ///     used: &mut [0; NODES],
+    ///     counts: &mut [0; NODES],
+    ///     cells: &mut [0; NODES * Memory::NODE_CELLS],
+    ///     order: &mut [0; NODES],
+    ///     versions: &mut [Version::default(); Memory::VERSIONS],
+    ///     walk_numbers: &mut [0; Memory::WALK_NUMBERS],
+    ///     walk_nodes: &mut [0; Memory::WALK_LEVELS],
+    ///     walk_indices: &mut [0; Memory::WALK_LEVELS],
+    /// };
+    /// let mut state = StateRef::form(memory)?;
+    /// assert_eq!(state.host().free_nodes()?, 64);
+    /// # Ok::<(), Refusal>(())
+    /// ```
+    pub fn form(mut memory: Memory<'a>) -> Result<StateRef<'a>, Refusal> {
+        frames_of(ffi::form(&mut memory))?;
+        Ok(StateRef { memory })
+    }
+
+    /// The state that stands in this memory already; refused with [`Refusal::IllFormed`] if none does.
+    ///
+    /// ```
+    /// use jumperloft::{Refusal, State, StateRef};
+    ///
+    /// let mut state = State::new(64)?;
+    /// let memory = state.lend().into_memory();
+    /// memory.counts[0] = 1;
+    /// assert_eq!(StateRef::resume(memory).err(), Some(Refusal::IllFormed));
+    /// # Ok::<(), Refusal>(())
+    /// ```
+    pub fn resume(memory: Memory<'a>) -> Result<StateRef<'a>, Refusal> {
+        let mut state = StateRef { memory };
+        state.audit()?;
+        Ok(state)
+    }
+
+    /// The memory, given back with the state in it.
+    pub fn into_memory(self) -> Memory<'a> {
+        self.memory
+    }
+
+    /// The same state, lent on for a shorter time.
+    pub fn lend(&mut self) -> StateRef<'_> {
+        StateRef {
+            memory: self.memory.reborrow(),
+        }
+    }
+
+    /// A handle that speaks for one party alone.
+    pub fn party(&mut self, party: Party) -> PartyHandle<'_> {
+        PartyHandle::of(self.lend(), party)
+    }
+
+    /// The host's own calls.
+    pub fn host(&mut self) -> Host<'_> {
+        Host::of(self.lend())
+    }
+
+    /// Whether the state is well-formed; [`Refusal::IllFormed`] if not.
+    pub fn audit(&mut self) -> Result<(), Refusal> {
+        self.run_into(&[], &mut []).map(drop)
+    }
+
+    /// Runs one frame, without allocation.
+    pub fn ask(&mut self, frame: Frame) -> Result<Served, Refusal> {
+        let mut room = [0; Answer::SIZE];
+        self.run_into(&frame.to_bytes(), &mut room)?;
+        Answer::from_bytes(room).expect(NUMBERS_KEPT).result()
+    }
+
+    /// Runs the frames in order and answers each; a refused frame is answered too, and the next one runs.
+    pub fn run(&mut self, batch: &Batch) -> Result<Vec<Answer>, Refusal> {
+        let mut room = vec![0; Answer::SIZE * batch.len()];
+        self.run_into(batch.as_bytes(), &mut room)?;
+        let (answers, _) = room.as_chunks();
+        let answer = |bytes: &[u8; Answer::SIZE]| Answer::from_bytes(*bytes).expect(NUMBERS_KEPT);
+        Ok(answers.iter().map(answer).collect())
+    }
+
+    /// The same over bytes, without allocation: tells how many frames ran, and answers each at its 6 bytes of the room. The room
+    /// beyond stays as it is; a batch that is refused writes nothing.
+    ///
+    /// ```
+    /// use jumperloft::{Answer, Frame, Party, Refusal, Slot, State};
+    ///
+    /// let mut state = State::new(64)?;
+    /// let requests = Frame::new_vector(Party::HOST, Slot::ALL[0], 5).to_bytes();
+    /// let mut room = [0xFF; 2 * Answer::SIZE];
+    /// assert_eq!(state.run_into(&requests, &mut room), Ok(1));
+    /// assert_eq!(room, [0, 1, 0, 0, 0, 0, 0xFF, 0xFF, 0xFF, 0xFF, 0xFF, 0xFF]);
+    /// assert_eq!(state.run_into(&requests, &mut []), Err(Refusal::NoRoom));
+    /// assert_eq!(state.run_into(&requests[1..], &mut room), Err(Refusal::Ragged));
+    /// # Ok::<(), Refusal>(())
+    /// ```
+    pub fn run_into(&mut self, requests: &[u8], room: &mut [u8]) -> Result<usize, Refusal> {
+        frames_of(ffi::batch(&mut self.memory, requests, room))
+    }
+}
+
+/// How many frames ran, or why none did.
+fn frames_of(report: Report) -> Result<usize, Refusal> {
+    if report.number == 0 {
+        return Ok(report.frames);
+    }
+    let refusal = u8::try_from(report.number)
+        .ok()
+        .and_then(Refusal::from_number);
+    Err(refusal.expect(NUMBERS_KEPT))
+}
+
+/// A state that owns its memory. It offers the calls of [`StateRef`].
+#[derive(Clone, Debug)]
+pub struct State {
+    kinds: Vec<u8>,
+    used: Vec<u8>,
+    counts: Vec<u32>,
+    cells: Vec<u32>,
+    order: Vec<u32>,
+    versions: Vec<Version>,
+    walk_numbers: Vec<u32>,
+    walk_nodes: Vec<u32>,
+    walk_indices: Vec<i32>,
+}
+
+impl State {
+    /// A fresh state of so many nodes, 1 to 65,536; another number is refused with [`Refusal::IllFormed`].
+    ///
+    /// ```
+    /// use jumperloft::{Refusal, State};
+    ///
+    /// assert_eq!(State::new(256)?.host().free_nodes()?, 256);
+    /// assert_eq!(State::new(0).err(), Some(Refusal::IllFormed));
+    /// # Ok::<(), Refusal>(())
+    /// ```
+    pub fn new(nodes: usize) -> Result<State, Refusal> {
+        if nodes > Memory::MOST_NODES {
+            return Err(Refusal::IllFormed);
+        }
+        let mut state = State {
+            kinds: vec![0; nodes],
+            used: vec![0; nodes],
+            counts: vec![0; nodes],
+            cells: vec![0; Memory::NODE_CELLS * nodes],
+            order: vec![0; nodes],
+            versions: vec![Version::default(); Memory::VERSIONS],
+            walk_numbers: vec![0; Memory::WALK_NUMBERS],
+            walk_nodes: vec![0; Memory::WALK_LEVELS],
+            walk_indices: vec![0; Memory::WALK_LEVELS],
+        };
+        StateRef::form(state.lend().into_memory())?;
+        Ok(state)
+    }
+
+    /// The state, lent for a while.
+    pub fn lend(&mut self) -> StateRef<'_> {
+        let memory = Memory {
+            kinds: &mut self.kinds,
+            used: &mut self.used,
+            counts: &mut self.counts,
+            cells: &mut self.cells,
+            order: &mut self.order,
+            versions: &mut self.versions,
+            walk_numbers: &mut self.walk_numbers,
+            walk_nodes: &mut self.walk_nodes,
+            walk_indices: &mut self.walk_indices,
+        };
+        StateRef { memory }
+    }
+
+    /// A handle that speaks for one party alone.
+    pub fn party(&mut self, party: Party) -> PartyHandle<'_> {
+        PartyHandle::of(self.lend(), party)
+    }
+
+    /// The host's own calls.
+    pub fn host(&mut self) -> Host<'_> {
+        Host::of(self.lend())
+    }
+
+    /// See [`StateRef::audit`].
+    pub fn audit(&mut self) -> Result<(), Refusal> {
+        self.lend().audit()
+    }
+
+    /// See [`StateRef::ask`].
+    pub fn ask(&mut self, frame: Frame) -> Result<Served, Refusal> {
+        self.lend().ask(frame)
+    }
+
+    /// See [`StateRef::run`].
+    pub fn run(&mut self, batch: &Batch) -> Result<Vec<Answer>, Refusal> {
+        self.lend().run(batch)
+    }
+
+    /// See [`StateRef::run_into`].
+    pub fn run_into(&mut self, requests: &[u8], room: &mut [u8]) -> Result<usize, Refusal> {
+        self.lend().run_into(requests, room)
+    }
+}

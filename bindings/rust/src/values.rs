@@ -1,0 +1,124 @@
+//! A walk as an iterator.
+
+use std::iter::FusedIterator;
+
+use crate::{Answer, Frame, PartyHandle, Walk};
+
+/// Elements taken in one batch: those of a full leaf.
+const AHEAD: usize = 32;
+
+const HELD_ALONE: &str = "a state that is held alone stays well-formed, and its walk open";
+
+/// The elements of a version in order, from either end. [`PartyHandle::values`] opens its walk; dropping it closes the walk.
+///
+/// It takes elements from the walk up to 32 at a time, as each batch audits the whole state.
+#[derive(Debug)]
+pub struct Values<'a> {
+    party: PartyHandle<'a>,
+    walk: Walk,
+    /// Elements that are still in the walk.
+    untaken: usize,
+    front: Ahead,
+    back: Ahead,
+}
+
+/// Elements taken from one end of the walk and not yet given on, the outermost first.
+#[derive(Debug)]
+struct Ahead {
+    values: [u32; AHEAD],
+    start: usize,
+    end: usize,
+}
+
+impl Ahead {
+    const NONE: Ahead = Ahead {
+        values: [0; AHEAD],
+        start: 0,
+        end: 0,
+    };
+
+    fn len(&self) -> usize {
+        self.end - self.start
+    }
+
+    fn outermost(&mut self) -> Option<u32> {
+        let value = *self.values[..self.end].get(self.start)?;
+        self.start += 1;
+        Some(value)
+    }
+
+    fn innermost(&mut self) -> Option<u32> {
+        let value = *self.values[self.start..self.end].last()?;
+        self.end -= 1;
+        Some(value)
+    }
+}
+
+impl<'a> Values<'a> {
+    pub(crate) fn of(party: PartyHandle<'a>, walk: Walk, untaken: usize) -> Values<'a> {
+        Values {
+            party,
+            walk,
+            untaken,
+            front: Ahead::NONE,
+            back: Ahead::NONE,
+        }
+    }
+
+    /// Takes elements from one end of the walk, by as many frames as there are elements or as fit.
+    fn take(&mut self, frame: Frame) -> Ahead {
+        let count = self.untaken.min(AHEAD);
+        let requests = [frame.to_bytes(); AHEAD];
+        let mut room = [[0; Answer::SIZE]; AHEAD];
+        let ran = self
+            .party
+            .run_into(requests[..count].as_flattened(), room.as_flattened_mut());
+        ran.expect(HELD_ALONE);
+        self.untaken -= count;
+        let mut ahead = Ahead {
+            end: count,
+            ..Ahead::NONE
+        };
+        for (value, bytes) in ahead.values.iter_mut().zip(&room[..count]) {
+            let answer = Answer::from_bytes(*bytes).map(Answer::result);
+            *value = answer.and_then(Result::ok).expect(HELD_ALONE).value;
+        }
+        ahead
+    }
+}
+
+impl Iterator for Values<'_> {
+    type Item = u32;
+
+    fn next(&mut self) -> Option<u32> {
+        if self.front.len() == 0 && self.untaken > 0 {
+            self.front = self.take(Frame::next(self.party.party(), self.walk));
+        }
+        self.front.outermost().or_else(|| self.back.innermost())
+    }
+
+    fn size_hint(&self) -> (usize, Option<usize>) {
+        let left = self.front.len() + self.untaken + self.back.len();
+        (left, Some(left))
+    }
+}
+
+impl DoubleEndedIterator for Values<'_> {
+    fn next_back(&mut self) -> Option<u32> {
+        if self.back.len() == 0 && self.untaken > 0 {
+            self.back = self.take(Frame::next_back(self.party.party(), self.walk));
+        }
+        self.back.outermost().or_else(|| self.front.innermost())
+    }
+}
+
+impl ExactSizeIterator for Values<'_> {}
+
+impl FusedIterator for Values<'_> {}
+
+impl Drop for Values<'_> {
+    fn drop(&mut self) {
+        // it is open, since nobody else could close it
+        let _ = self.party.close_walk(self.walk);
+    }
+}
