@@ -4,14 +4,15 @@ use std::iter::FusedIterator;
 
 use crate::{Answer, Frame, PartyHandle, Walk};
 
-/// Elements taken in one batch: those of a full leaf.
-const AHEAD: usize = 32;
+/// Elements taken in one batch: so many that the audit before it hardly counts, in room that a stack has.
+const AHEAD: usize = 256;
 
 const HELD_ALONE: &str = "a state that is held alone stays well-formed, and its walk open";
 
 /// The elements of a version in order, from either end. [`PartyHandle::values`] opens its walk; dropping it closes the walk.
 ///
-/// It takes elements from the walk up to 32 at a time, as each batch audits the whole state.
+/// It takes elements from the walk up to 256 at a time, as each batch audits the whole state. An iterator that is forgotten, not
+/// dropped, leaves its walk open.
 #[derive(Debug)]
 pub struct Values<'a> {
     party: PartyHandle<'a>,

@@ -1,4 +1,4 @@
-//! The iterator from both ends, at the lengths where a leaf or a branch is full.
+//! The iterator from both ends, at the lengths where a leaf, a branch or what is taken ahead is full.
 
 mod filled;
 mod random;
@@ -16,7 +16,7 @@ const WALK: Walk = Walk::ALL[0];
 fn values_meet_in_the_middle() {
     let mut random = Random::new(7);
     for bits in 1..=5 {
-        for length in [0, 1, 2, 31, 32, 33, 63, 64, 65, 100, 1_025] {
+        for length in [0, 1, 2, 31, 32, 33, 65, 255, 256, 257, 512, 513, 1_025] {
             let (mut state, slot) = filled(NODES, bits, length);
             let mut party = state.party(Party::ALL[1]);
             let mut values = party.values(slot, WALK).unwrap();

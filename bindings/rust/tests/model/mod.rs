@@ -75,12 +75,7 @@ impl Model {
     /// The fresh nodes, the charge and the result of a frame that fills a slot; the checks 7 to 9 of it.
     fn edited(&self, frame: Frame, named: &Named) -> Result<(u8, u32, Option<Vector>), Refusal> {
         if frame.operation == 0x00 {
-            let bits = frame.index;
-            let vector = (1..=5).contains(&bits).then(|| Vector {
-                bits,
-                values: Vec::new(),
-            });
-            return Ok((1, 1, Some(vector.ok_or(Refusal::BadBits)?)));
+            return new_vector(frame.index).map(|vector| (1, 1, Some(vector)));
         }
         let (Some(source), Some(_)) = (named.sources.first(), named.filled) else {
             return Ok((0, 0, None));
@@ -139,6 +134,14 @@ impl Model {
     fn walked(&mut self, named: &Named) -> Option<&mut VecDeque<u32>> {
         self.walks.get_mut(&named.walked?)
     }
+}
+
+fn new_vector(bits: u32) -> Result<Vector, Refusal> {
+    if !(1..=5).contains(&bits) {
+        return Err(Refusal::BadBits);
+    }
+    let values = Vec::new();
+    Ok(Vector { bits, values })
 }
 
 fn named(frame: Frame) -> Result<Named, Refusal> {
