@@ -66,3 +66,4 @@ bench-program:
 # writes the recorded answers and sessions anew
 record:
 	@cd oracle && $(JUDGE) record recorded && $(SESSION) record recorded && $(DRIVE) record recorded
+include make/c.mk

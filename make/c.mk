@@ -1,0 +1,66 @@
+# What a host in C gets: the library installed, examples, tests, the README's snippet.
+PREFIX ?= /usr/local
+DESTDIR ?=
+CC ?= cc
+CXX ?= c++
+# names an archive that is there already; without it, `rt staticlib host` makes one
+HOST_LIBRARY ?=
+C_OUT = target/c
+C_PREFIX = $(CURDIR)/$(C_OUT)/prefix
+C_CHECKED = -Wall -Wextra -Wpedantic -Werror -Wshadow
+C_FLAGS = -std=c11 -O2 $(C_CHECKED) -Wconversion
+C_PKG = PKG_CONFIG_PATH='$(C_PREFIX)/lib/pkgconfig' pkg-config
+C_LINKED = $$($(C_PKG) --cflags --libs jumperloft)
+MISUSE = tests/c/misuse.c tests/c/damaged.c tests/c/checks.c tests/c/guarded.c
+# how many damaged states the slow runs lend
+C_SHORT ?= 300
+C_SEED ?= 1
+
+.PHONY: install host-library c-prefix examples c-tests snippet
+
+host-library:
+	@mkdir -p target
+	@if [ -z '$(HOST_LIBRARY)' ]; then rt staticlib host >target/host.log 2>&1 || { tail -20 target/host.log; exit 1; }; fi
+
+install: host-library
+	@mkdir -p '$(DESTDIR)$(PREFIX)/include' '$(DESTDIR)$(PREFIX)/lib/pkgconfig'
+	@install -m 644 include/jumperloft.h '$(DESTDIR)$(PREFIX)/include/jumperloft.h'
+	@install -m 644 '$(or $(HOST_LIBRARY),target/staticlib/libhost.a)' '$(DESTDIR)$(PREFIX)/lib/libjumperloft.a'
+	@sed 's|@PREFIX@|$(abspath $(PREFIX))|' make/jumperloft.pc.in >'$(DESTDIR)$(PREFIX)/lib/pkgconfig/jumperloft.pc'
+	@echo 'install: $(DESTDIR)$(PREFIX)'
+
+# installed in target/, for the targets below
+c-prefix:
+	@$(MAKE) --no-print-directory install PREFIX='$(C_PREFIX)' DESTDIR= HOST_LIBRARY='$(HOST_LIBRARY)' >/dev/null
+
+# a host and its plug-in, as examples/README.md compiles them
+examples: c-prefix
+	@$(CC) $(C_FLAGS) examples/host.c $(C_LINKED) -ldl -o $(C_OUT)/host
+	@$(CC) $(C_FLAGS) -shared -fPIC -fvisibility=hidden examples/plugin.c $(C_LINKED) -Wl,--exclude-libs,ALL -o $(C_OUT)/plugin.so
+	@nm -D --defined-only $(C_OUT)/plugin.so | awk '{ print $$3 }' >$(C_OUT)/exports
+	@echo plugin_edit | diff - $(C_OUT)/exports
+	@$(C_OUT)/host ./$(C_OUT)/plugin.so >$(C_OUT)/host.out
+	@diff examples/host.expected $(C_OUT)/host.out
+	@echo 'examples: the host and its plug-in say what they should, and the plug-in exports plugin_edit alone'
+
+c-tests: c-prefix
+	@$(CC) -std=c11 $(C_CHECKED) tests/c/header.c $(C_LINKED) -o $(C_OUT)/header_c && $(C_OUT)/header_c
+	@$(CXX) -x c++ -std=c++17 $(C_CHECKED) tests/c/header.c -x none $(C_LINKED) -o $(C_OUT)/header_cxx && $(C_OUT)/header_cxx
+	@$(CC) $(C_FLAGS) tests/c/stack.c $(C_LINKED) -pthread -o $(C_OUT)/stack && $(C_OUT)/stack
+	@$(CC) $(C_FLAGS) $(MISUSE) $(C_LINKED) -o $(C_OUT)/misuse && $(C_OUT)/misuse 20000 $(C_SEED)
+	@echo 'c-tests: with the address and undefined behaviour sanitizers'
+	@$(CC) $(C_FLAGS) -g -fsanitize=address,undefined -fno-sanitize-recover=all $(MISUSE) $(C_LINKED) -o $(C_OUT)/misuse_sanitized
+	@$(C_OUT)/misuse_sanitized 20000 $(C_SEED)
+	@if ! command -v valgrind >/dev/null 2>&1; then echo 'c-tests: valgrind SKIPPED, it is not on this machine'; \
+	else echo 'c-tests: with valgrind' && valgrind --quiet --error-exitcode=1 --leak-check=full --max-stackframe=1048576 \
+	$(C_OUT)/misuse $(C_SHORT) $(C_SEED); fi
+
+# the README's snippet as a newcomer compiles it, in a folder of its own
+snippet: host-library
+	@folder=$$(mktemp -d) && trap 'rm -rf "$$folder"' EXIT && \
+	$(MAKE) --no-print-directory install PREFIX="$$folder/usr" DESTDIR= HOST_LIBRARY='$(or $(HOST_LIBRARY),target/staticlib/libhost.a)' >/dev/null && \
+	cp docs/snippets/readme.c docs/snippets/readme.expected "$$folder" && cd "$$folder" && \
+	export PKG_CONFIG_PATH="$$folder/usr/lib/pkgconfig" && \
+	$(CC) $(C_FLAGS) readme.c $$(pkg-config --cflags --libs jumperloft) -o readme && \
+	./readme >readme.out && diff readme.expected readme.out && \
+	echo 'snippet: compiled against an installed library, and it says what it should'
