@@ -75,10 +75,7 @@ enum {
 
 /* One record of the version table. */
 typedef struct jumperloft1_version {
-    uint32_t live;
-    uint32_t root;
-    uint32_t bits;
-    uint32_t length;
+    uint32_t live, root, bits, length;
 } jumperloft1_version;
 
 /* What a call reports: the number given back, and how many frames ran. */
@@ -89,15 +86,8 @@ typedef struct jumperloft1_report {
 
 /* How many elements each slice of a state has; nodes is the count of kinds. */
 typedef struct jumperloft1_sizes_of {
-    size_t nodes;
-    size_t used;
-    size_t cells;
-    size_t counts;
-    size_t order;
-    size_t versions;
-    size_t walk_numbers;
-    size_t walk_nodes;
-    size_t walk_indices;
+    size_t nodes, used, cells, counts, order;
+    size_t versions, walk_numbers, walk_nodes, walk_indices;
 } jumperloft1_sizes_of;
 
 /* A lent state: a pointer for each slice, and the sizes. A host fills it once. */

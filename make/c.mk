@@ -11,7 +11,7 @@ C_CHECKED = -Wall -Wextra -Wpedantic -Werror -Wshadow
 C_FLAGS = -std=c11 -O2 $(C_CHECKED) -Wconversion
 C_PKG = PKG_CONFIG_PATH='$(C_PREFIX)/lib/pkgconfig' pkg-config
 C_LINKED = $$($(C_PKG) --cflags --libs jumperloft)
-MISUSE = tests/c/misuse.c tests/c/damaged.c tests/c/checks.c tests/c/guarded.c
+MISUSE = tests/c/misuse.c tests/c/refusals.c tests/c/damaged.c tests/c/checks.c tests/c/guarded.c
 # how many damaged states the slow runs lend
 C_SHORT ?= 300
 C_SEED ?= 1
@@ -44,10 +44,14 @@ examples: c-prefix
 	@echo 'examples: the host and its plug-in say what they should, and the plug-in exports plugin_edit alone'
 
 c-tests: c-prefix
+	@sh tests/c/symbols.sh '$(C_PREFIX)/lib/libjumperloft.a'
 	@$(CC) -std=c11 $(C_CHECKED) tests/c/header.c $(C_LINKED) -o $(C_OUT)/header_c && $(C_OUT)/header_c
 	@$(CXX) -x c++ -std=c++17 $(C_CHECKED) tests/c/header.c -x none $(C_LINKED) -o $(C_OUT)/header_cxx && $(C_OUT)/header_cxx
 	@$(CC) $(C_FLAGS) tests/c/stack.c $(C_LINKED) -pthread -o $(C_OUT)/stack && $(C_OUT)/stack
-	@$(CC) $(C_FLAGS) $(MISUSE) $(C_LINKED) -o $(C_OUT)/misuse && $(C_OUT)/misuse 20000 $(C_SEED)
+	@mkdir -p $(C_OUT)/objects && for file in $(MISUSE); do \
+	$(CC) $(C_FLAGS) -c $$file $$($(C_PKG) --cflags jumperloft) -o $(C_OUT)/objects/$$(basename $$file .c).o || exit 1; done
+	@$(CC) $(C_OUT)/objects/*.o $(C_LINKED) -o $(C_OUT)/misuse && $(C_OUT)/misuse 20000 $(C_SEED)
+	@sh tests/c/notices.sh $(C_OUT)/objects $(CC) $(C_FLAGS) $(C_LINKED)
 	@echo 'c-tests: with the address and undefined behaviour sanitizers'
 	@$(CC) $(C_FLAGS) -g -fsanitize=address,undefined -fno-sanitize-recover=all $(MISUSE) $(C_LINKED) -o $(C_OUT)/misuse_sanitized
 	@$(C_OUT)/misuse_sanitized 20000 $(C_SEED)

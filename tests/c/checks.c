@@ -59,6 +59,11 @@ void catch_faults(void)
     sigaction(SIGILL, &action, NULL);
 }
 
+int reports(jumperloft1_report report, uint32_t expected, size_t frames)
+{
+    return report.number == expected && report.frames == frames;
+}
+
 void seed_with(uint64_t seed)
 {
     number = seed;
