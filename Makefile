@@ -11,16 +11,24 @@ BUILD_PROGRAM = mkdir -p target; rt check jumperloft >target/program.log 2>&1 ||
 # what `make run` feeds the program: document 01's example, or another file of lines
 FRAMES ?= crates/jumperloft/stdin
 
-.PHONY: run test format kinds oracle drive program soak bench-audit bench-program record
+# the library that hosts link; HOST_LIBRARY names one that is there already
+HOST_LIBRARY ?=
+BUILT_LIBRARY = $(or $(HOST_LIBRARY),target/staticlib/libhost.a)
+
+.PHONY: run test built format kinds oracle drive program soak bench-audit bench-program record
 
 # prints the program's output alone
 run:
 	@$(BUILD_PROGRAM)
 	@$(PROGRAM) <'$(FRAMES)'
 
-# what fails before the last line makes it fail; the last line is rt ci's
-test: format oracle kinds drive program
-	@rt ci
+# rt ci removes what is built and proves all anew, so it comes first and the rest runs what it built; its last line is shown again at the end
+test: format
+	@log=$$(mktemp) && trap 'rm -f "$$log"' EXIT && rt ci 2>&1 | tee "$$log" && tail -n 1 "$$log" | grep -qx '[0-9]* passed, 0 failed' && \
+	$(MAKE) --no-print-directory built && tail -n 1 "$$log"
+
+# all that runs what is built
+built: oracle kinds drive program boundary c-tests examples snippet rust-binding plugins
 
 format:
 	@rt fmt --check
@@ -66,4 +74,5 @@ bench-program:
 # writes the recorded answers and sessions anew
 record:
 	@cd oracle && $(JUDGE) record recorded && $(SESSION) record recorded && $(DRIVE) record recorded
-include make/c.mk
+
+include make/c.mk make/rust.mk make/plugins.mk make/boundary.mk

@@ -3,8 +3,6 @@ PREFIX ?= /usr/local
 DESTDIR ?=
 CC ?= cc
 CXX ?= c++
-# names an archive that is there already; without it, `rt staticlib host` makes one
-HOST_LIBRARY ?=
 C_OUT = target/c
 C_PREFIX = $(CURDIR)/$(C_OUT)/prefix
 C_CHECKED = -Wall -Wextra -Wpedantic -Werror -Wshadow
@@ -25,7 +23,7 @@ host-library:
 install: host-library
 	@mkdir -p '$(DESTDIR)$(PREFIX)/include' '$(DESTDIR)$(PREFIX)/lib/pkgconfig'
 	@install -m 644 include/jumperloft.h '$(DESTDIR)$(PREFIX)/include/jumperloft.h'
-	@install -m 644 '$(or $(HOST_LIBRARY),target/staticlib/libhost.a)' '$(DESTDIR)$(PREFIX)/lib/libjumperloft.a'
+	@install -m 644 '$(BUILT_LIBRARY)' '$(DESTDIR)$(PREFIX)/lib/libjumperloft.a'
 	@sed 's|@PREFIX@|$(abspath $(PREFIX))|' make/jumperloft.pc.in >'$(DESTDIR)$(PREFIX)/lib/pkgconfig/jumperloft.pc'
 	@echo 'install: $(DESTDIR)$(PREFIX)'
 
@@ -61,8 +59,9 @@ c-tests: c-prefix
 
 # the README's snippet as a newcomer compiles it, in a folder of its own
 snippet: host-library
+	@sh tests/readme_snippets.sh
 	@folder=$$(mktemp -d) && trap 'rm -rf "$$folder"' EXIT && \
-	$(MAKE) --no-print-directory install PREFIX="$$folder/usr" DESTDIR= HOST_LIBRARY='$(or $(HOST_LIBRARY),target/staticlib/libhost.a)' >/dev/null && \
+	$(MAKE) --no-print-directory install PREFIX="$$folder/usr" DESTDIR= HOST_LIBRARY='$(BUILT_LIBRARY)' >/dev/null && \
 	cp docs/snippets/readme.c docs/snippets/readme.expected "$$folder" && cd "$$folder" && \
 	export PKG_CONFIG_PATH="$$folder/usr/lib/pkgconfig" && \
 	$(CC) $(C_FLAGS) readme.c $$(pkg-config --cflags --libs jumperloft) -o readme && \

@@ -1,0 +1,6 @@
+# The same code in two plug-ins: every ordered pair in every way of loading, and what goes wrong without the link line.
+.PHONY: plugins
+
+plugins: host-library
+	@if ! command -v $(CC) >/dev/null 2>&1; then echo 'plugins: SKIPPED, there is no C compiler on this machine'; \
+	else CC='$(CC)' sh tests/plugins/run.sh '$(BUILT_LIBRARY)' target/plugins; fi

@@ -1,0 +1,156 @@
+// The host program: every ordered pair of plug-ins in every way of loading, each order in a process of its own.
+#include "order.h"
+#include "threads.h"
+#include <dlfcn.h>
+#include <stdio.h>
+#include <stdlib.h>
+#include <string.h>
+#include <sys/mman.h>
+#include <sys/wait.h>
+#include <unistd.h>
+
+enum { EVERY_OPERATION = 0x1FFFF, SECONDS_FOR_ONE = 20, THREAD_ROUNDS = 4, LOADINGS = 8 };
+
+static const char *const schedules[] = {
+    "AB abahba 2a Bb 1b A abhab 12",
+    "AB babhab 1b Aa 2a B bahba 21",
+    "A a B b 1b h A ab 2a B ba 12",
+    "A a 1 B b A ah 2a 1 BA bab 21",
+};
+
+// What this program exports under our names decides what becomes of careless.so.
+static int exporting;
+static harm_count *harmful;
+
+static const char *directory;
+static findings *seen;
+static size_t orders, wrong, exposed, accidents, frames;
+static uint32_t operations;
+static char accident[900];
+
+static const char *file_of(const char *plugin, int again)
+{
+    char *path = NULL;
+    if (asprintf(&path, "%s/%s%s.so", directory, plugin, again ? ".again" : "") < 0)
+        exit(2);
+    return path;
+}
+
+// Runs the order, or the two threads if there is no schedule, in a child; 0 if all agreed.
+static int in_child(const order *o)
+{
+    memset(seen, 0, sizeof *seen);
+    fflush(NULL);
+    pid_t child = fork();
+    if (child == 0) {
+        alarm(SECONDS_FOR_ONE);
+        _exit((o->schedule ? run_order(o, seen) : run_threads(o->files, o->seed, seen)) ? 1 : 0);
+    }
+    int status;
+    if (child < 0 || waitpid(child, &status, 0) != child)
+        exit(2);
+    if (WIFSIGNALED(status))
+        snprintf(seen->said, sizeof seen->said, "ended by signal %d", WTERMSIG(status));
+    frames += seen->frames;
+    operations |= seen->operations;
+    return WIFEXITED(status) && WEXITSTATUS(status) == 0 && seen->harm == 0 ? 0 : -1;
+}
+
+static void words(char *to, size_t room, const char *first, const char *second, const order *o)
+{
+    snprintf(to, room, "program %s, %s.so (%s) and %s.so (%s), %s, \"%s\": %u calls taken by other code; %s",
+        HOST_NAME, first, o->flags[0] & RTLD_GLOBAL ? "RTLD_GLOBAL" : "RTLD_LOCAL",
+        second, o->flags[1] & RTLD_GLOBAL ? "RTLD_GLOBAL" : "RTLD_LOCAL",
+        o->flags[0] & RTLD_NOW ? "RTLD_NOW" : "RTLD_LAZY", o->schedule, seen->harm, seen->said);
+}
+
+// The orders in which careless.so can meet other code under our names.
+static int is_exposed(const char *const names[2], const order *o)
+{
+    for (int k = 0; k < 2; k++) {
+        int meets = !strcmp(names[1 - k], "decoy") && (o->flags[1 - k] & RTLD_GLOBAL) && !exporting;
+        if (!strcmp(names[k], "careless") && (harmful || meets))
+            return 1;
+    }
+    return 0;
+}
+
+static void try_order(const char *const names[2], const order *o)
+{
+    char text[900];
+    int bad = in_child(o), open = is_exposed(names, o);
+    orders++;
+    exposed += (size_t)open;
+    if (!bad)
+        return;
+    words(text, sizeof text, names[0], names[1], o);
+    if (!open) {
+        wrong++;
+        printf("plugins: FAILED, %s\n", text);
+    } else if (accidents++ == 0) {
+        memcpy(accident, text, sizeof text);
+    }
+}
+
+static void try_pair(const char *first, const char *second)
+{
+    const char *const names[2] = { first, second };
+    order o = { .files = { file_of(first, 0), file_of(second, !strcmp(first, second)) }, .program_harm = harmful };
+    o.stays = !strcmp(first, "careless") || !strcmp(second, "careless");
+    for (int loading = 0; loading < LOADINGS; loading++) {
+        int binding = loading & 1 ? RTLD_LAZY : RTLD_NOW;
+        o.flags[0] = binding | (loading & 2 ? RTLD_GLOBAL : RTLD_LOCAL);
+        o.flags[1] = binding | (loading & 4 ? RTLD_GLOBAL : RTLD_LOCAL);
+        for (size_t k = 0; k < sizeof schedules / sizeof *schedules; k++) {
+            o.schedule = schedules[k];
+            o.seed = (uint32_t)(7919 * orders + 1);
+            try_order(names, &o);
+        }
+    }
+}
+
+static void try_threads(void)
+{
+    for (uint32_t round = 0; round < THREAD_ROUNDS; round++) {
+        order o = { .files = { file_of(round % 2 ? "edition2" : "c_a", 0), file_of(round % 2 ? "c_a" : "edition2", 0) },
+            .seed = 1000 * round + 1 };
+        if (in_child(&o)) {
+            wrong++;
+            printf("plugins: FAILED, program %s, c_a.so and edition2.so in two threads: %s\n", HOST_NAME, seen->said);
+        }
+    }
+}
+
+// Whether this program exports names of ours, and whether these do harm.
+static void know_oneself(void)
+{
+    exporting = dlsym(RTLD_DEFAULT, "jumperloft1_batch") != NULL;
+    harmful = (harm_count *)dlsym(RTLD_DEFAULT, "harm_done");
+}
+
+int main(int count, char **given)
+{
+    if (count < 3)
+        return 2;
+    directory = given[1];
+    know_oneself();
+    seen = mmap(NULL, sizeof *seen, PROT_READ | PROT_WRITE, MAP_SHARED | MAP_ANONYMOUS, -1, 0);
+    if (seen == MAP_FAILED)
+        return 2;
+    for (int a = 2; a < count; a++)
+        for (int b = 2; b < count; b++)
+            try_pair(given[a], given[b]);
+    try_threads();
+    if (operations != EVERY_OPERATION && wrong == 0) {
+        wrong++;
+        printf("plugins: FAILED, program %s: the operations done were %X\n", HOST_NAME, operations);
+    }
+    if (exposed > 0 && accidents == 0) {
+        wrong++;
+        printf("plugins: FAILED, program %s: careless.so met other code under our names and nothing went wrong\n", HOST_NAME);
+    }
+    if (accidents > 0)
+        printf("accident %s\n", accident);
+    printf("counts %s %zu %zu %zu %zu %zu\n", HOST_NAME, orders, wrong, exposed, accidents, frames);
+    return wrong != 0;
+}
