@@ -37,6 +37,14 @@ impl Frame {
         }
     }
 
+    pub fn bytes(&self) -> [u8; DIGITS / 2] {
+        let mut bytes = [0; DIGITS / 2];
+        bytes[..4].copy_from_slice(&[self.party, self.operation, self.slot, self.destination]);
+        bytes[4..8].copy_from_slice(&self.index.to_be_bytes());
+        bytes[8..].copy_from_slice(&self.value.to_be_bytes());
+        bytes
+    }
+
     pub fn line(&self) -> String {
         let Frame {
             party,
@@ -87,6 +95,11 @@ impl Answer {
         }
     }
 
+    pub fn bytes(&self) -> [u8; 6] {
+        let [v0, v1, v2, v3] = self.value.to_be_bytes();
+        [self.number, self.fresh, v0, v1, v2, v3]
+    }
+
     pub fn line(&self) -> String {
         let Answer {
             number,
@@ -109,6 +122,7 @@ mod tests {
         assert_eq!((frame.slot, frame.destination), (2, 3));
         assert_eq!((frame.index, frame.value), (0xDEAD_BEEF, 0xABCD));
         assert_eq!(frame.line().as_bytes(), line);
+        assert_eq!(Frame::of_bytes(frame.bytes()), frame);
     }
 
     #[test]

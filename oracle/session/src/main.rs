@@ -1,26 +1,6 @@
 //! The program of document 01 made of the original's vectors, and sessions for it.
 
-mod bench;
-mod child;
-mod choice;
-mod count;
-mod edges;
-mod frame;
-mod lines;
-mod make;
-mod manners;
-mod mix;
-mod numbers;
-mod pieces;
-mod places;
-mod program;
-mod record;
-mod rng;
-mod rounds;
-mod spoil;
-mod state;
-mod walk;
-
+use session::{bench, count, lines, make, mix, program, record};
 use std::io::{Read, Write};
 use std::path::Path;
 use std::process::ExitCode;

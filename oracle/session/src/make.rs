@@ -40,6 +40,26 @@ pub fn make(seed: u64, count: usize) -> Vec<u8> {
     bytes
 }
 
+/// A frame of any party and operation; about one in five is made to be refused.
+pub fn any_frame(rng: &mut Rng, state: &State) -> Frame {
+    let party = rng.byte_below(PARTIES);
+    match rng.below(100) {
+        0..=1 => spoil::any_bytes(rng),
+        2..=3 => spoil::bad_bits(rng, state, party),
+        4..=5 => spoil::not_host(rng, state),
+        6..=8 => spoil::out_of_range(rng, state, party),
+        9..=18 => spoil::spoiled(rng, state),
+        _ => {
+            let nothing_live = choice::slots(state, party, true).is_empty();
+            let operation = match choice::operation(rng) {
+                _ if nothing_live && !rng.one_in(4) => NEW,
+                operation => operation,
+            };
+            choice::frame(rng, state, party, operation)
+        }
+    }
+}
+
 impl Maker {
     pub fn is_done(&self) -> bool {
         self.lines.len() >= self.count
@@ -82,36 +102,16 @@ impl Maker {
     /// Any line; with `spared`, none by that party.
     pub fn any(&mut self, spared: Option<u8>) {
         if self.rng.one_in(60) {
-            let frame = self.any_frame();
+            let frame = any_frame(&mut self.rng, &self.state);
             let line = spoil::no_frame(&mut self.rng, &frame);
             self.lines.push(line);
             return;
         }
-        let mut frame = self.any_frame();
+        let mut frame = any_frame(&mut self.rng, &self.state);
         while Some(frame.party) == spared {
-            frame = self.any_frame();
+            frame = any_frame(&mut self.rng, &self.state);
         }
         self.send(&frame);
-    }
-
-    fn any_frame(&mut self) -> Frame {
-        let (rng, state) = (&mut self.rng, &self.state);
-        let party = rng.byte_below(PARTIES);
-        match rng.below(100) {
-            0..=1 => spoil::any_bytes(rng),
-            2..=3 => spoil::bad_bits(rng, state, party),
-            4..=5 => spoil::not_host(rng, state),
-            6..=8 => spoil::out_of_range(rng, state, party),
-            9..=18 => spoil::spoiled(rng, state),
-            _ => {
-                let nothing_live = choice::slots(state, party, true).is_empty();
-                let operation = match choice::operation(rng) {
-                    _ if nothing_live && !rng.one_in(4) => NEW,
-                    operation => operation,
-                };
-                choice::frame(rng, state, party, operation)
-            }
-        }
     }
 
     /// Releases and closes, on the average, all but one in `but` of what is live and isn't `spared`.

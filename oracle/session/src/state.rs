@@ -41,6 +41,11 @@ impl State {
         }
     }
 
+    /// Empties every slot and closes every walk.
+    pub fn clear(&mut self) {
+        self.parties = Default::default();
+    }
+
     pub fn free_nodes(&self) -> usize {
         self.pool - CountingK::live()
     }

@@ -1,0 +1,56 @@
+//! Holds the static library of the crate `host`, by its C functions, against the model made of the original's vectors.
+
+mod author;
+mod calls;
+mod differential;
+mod exhaust;
+mod ffi;
+mod lent;
+mod pair;
+mod scenes;
+mod sequences;
+
+use std::env;
+use std::process::ExitCode;
+
+const FRAMES: usize = 2_000_000;
+const SEED: u64 = 1;
+
+const USAGE: &str = "usage: boundary exhaust
+       boundary differential [--frames N] [--seed S]
+       boundary sequences";
+
+fn main() -> ExitCode {
+    let arguments: Vec<String> = env::args().skip(1).collect();
+    let arguments: Vec<&str> = arguments.iter().map(String::as_str).collect();
+    match run(&arguments) {
+        Some(true) => ExitCode::SUCCESS,
+        Some(false) => ExitCode::FAILURE,
+        None => {
+            eprintln!("{USAGE}");
+            ExitCode::from(2)
+        }
+    }
+}
+
+/// Whether all agrees; nothing for an unknown command.
+fn run(arguments: &[&str]) -> Option<bool> {
+    match arguments {
+        ["exhaust"] => Some(exhaust::exhaust()),
+        ["sequences"] => Some(sequences::sequences()),
+        ["differential", options @ ..] => differential(options),
+        _ => None,
+    }
+}
+
+fn differential(options: &[&str]) -> Option<bool> {
+    let (mut frames, mut seed) = (FRAMES, SEED);
+    for option in options.chunks(2) {
+        match option {
+            ["--frames", number] => frames = number.parse().ok()?,
+            ["--seed", number] => seed = number.parse().ok()?,
+            _ => return None,
+        }
+    }
+    Some(differential::differential(frames, seed))
+}
