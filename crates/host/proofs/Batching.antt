@@ -3,10 +3,10 @@ use mathlib.Core.Path.{_≡_, refl, sym, _∙_, subst}
 use mathlib.Core.Logic.{_≢_}
 use mathlib.Core.Bool.{Bool, true, false, not, cond, false≢true}
 use mathlib.Core.List.{List}
-use Prim.Native.Nat.{ℕ, zero, suc, _*_, _/_, _%_, _≤_, _<_}
+use Prim.Native.Nat.{ℕ, zero, suc, _*_, _/_, _%_}
 use lib.Dec.{T as Holds, eqb, eqb→eq, ltb, ltb→lt, nltb→le}
 use lib.ListN.{length}
-use borrow.Author.Tests.{eq-eqb, ne-eqb, lt-ltb, le-ltb}
+use borrow.Author.Tests.{eq-eqb}
 use Rattle.meaning.specs.Limits.{frameSize, answerSize, DONE}
 use Rattle.meaning.specs.Lent.{Lent}
 use Rattle.meaning.specs.WellFormed.{WellFormed}
@@ -14,10 +14,11 @@ use Rattle.audit.specs.Audited.{Judged}
 use Rattle.records.specs.declared.Version.{Version}
 use Rattle.records.specs.Records.{recordsOf}
 use Rattle.version_table.specs.Tables.{tableOf, stored}
+use Rattle.lending.specs.Lending.{refusalOf}
 use Rattle.batch.specs.Batched.{framesOf, stateAfter, Batches}
 use Rattle.batch.proofs.Batching.{ragged, no-room, ill-formed}
 use Rattle.host.specs.declared.Done.{Done}
-use Rattle.host.specs.Reports.{doneWith, refusalOf, BatchesOf}
+use Rattle.host.specs.Reports.{doneWith, BatchesOf}
 use Rattle.host.proofs.Settled.{holding, other-length, settled-whole, settled-other}
 
 -- ---- a state that can't be well-formed
@@ -36,17 +37,6 @@ module _ (s : Lent) (requests room : List ℕ) (ill : WellFormed s → ⊥) wher
 
   pub refused-sizes : Batches s s requests room room (refusalOf (length requests) (length room)) 0
   refused-sizes = of-requests (eqb (length requests % frameSize) 0) refl
-
--- ---- its number
-
-pub ragged-number : (asked room : ℕ) → asked % frameSize ≢ 0 → 13 ≡ refusalOf asked room
-ragged-number asked room n = rw (ne-eqb (asked % frameSize) 0 n)
-
-pub room-number : (asked room : ℕ) → asked % frameSize ≡ 0 → room < answerSize * (asked / frameSize) → 12 ≡ refusalOf asked room
-room-number asked room e l = rw (eq-eqb (asked % frameSize) 0 e, lt-ltb room (answerSize * (asked / frameSize)) l)
-
-pub table-number : (asked room : ℕ) → asked % frameSize ≡ 0 → answerSize * (asked / frameSize) ≤ room → 11 ≡ refusalOf asked room
-table-number asked room e l = rw (eq-eqb (asked % frameSize) 0 e, le-ltb room (answerSize * (asked / frameSize)) l)
 
 -- ---- of the table
 

@@ -3,4 +3,3 @@ pub mod Shapes
 pub mod Settled
 pub mod Forming
 pub mod Batching
-pub mod Sizing

@@ -1,29 +1,21 @@
 // What a host and its plug-ins link: the calls, over what a host lends.
-mod sizes;
-
+use lending::Sizes;
 use records::Version;
 use version_table::store_table;
 use version_table::table_of;
 ghost use mathlib.Core.Path.{_≡_};
+ghost use Rattle.lending.specs.Lending.{Sized};
 ghost use Rattle.form.specs.Forms.{lentOf, Forms};
 ghost use Rattle.batch.specs.Batched.{Batches};
-ghost use Rattle.host.specs.Reports.{doneWith, FormsOf, refusalOf, BatchesOf};
+ghost use Rattle.host.specs.Reports.{doneWith, FormsOf, BatchesOf};
 
 const SLOTS: usize = 64;
-
-const FRAME_SIZE: usize = 12;
-
-const ANSWER_SIZE: usize = 6;
 
 // ---- numbers given back
 
 const DONE: u8 = 0;
 
 const ILL_FORMED: u8 = 11;
-
-const NO_ROOM: u8 = 12;
-
-const RAGGED: u8 = 13;
 
 // What a call reports: the number given back, and how many frames ran.
 #[repr(C)]
@@ -90,6 +82,14 @@ fn form_table(
     done_with(r.number, 0, table)
 }
 
+// How many elements each slice of a state of so many nodes has; all 0 where there is no such state.
+#[no_mangle]
+pub extern "C" fn jumperloft1_sizes(nodes: usize) -> Sizes
+    ensures { λ r. ⌜ Sized nodes r ⌝ }
+{
+    lending::sizes_of(nodes)
+}
+
 // A fresh state in what is lent.
 #[no_mangle]
 pub extern "C" fn jumperloft1_form(
@@ -127,19 +127,6 @@ pub extern "C" fn jumperloft1_form(
     formed.report
 }
 
-// The number of a batch whose table has another length.
-fn refusal_of_sizes(asked: usize, room: usize) -> u8
-    ensures { λ r. ⌜ r ≡ refusalOf asked room ⌝ }
-{
-    if asked % FRAME_SIZE != 0 {
-        return RAGGED;
-    }
-    if room < ANSWER_SIZE * (asked / FRAME_SIZE) {
-        return NO_ROOM;
-    }
-    ILL_FORMED
-}
-
 // A batch, with the table by value and the number of records that it was copied from.
 fn batch_table(
     kinds: &mut [u8],
@@ -163,7 +150,7 @@ fn batch_table(
         (now (requests .entry)) (now (room .entry)) (now (room .exit)) r ⌝ }
 {
     if count != SLOTS {
-        let number = refusal_of_sizes(requests.len(), room.len());
+        let number = lending::refusal_of_sizes(requests.len(), room.len());
         return done_with(number, 0, versions);
     }
     let r = batch::batch(

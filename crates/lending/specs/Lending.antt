@@ -1,12 +1,14 @@
--- How much a host lends.
+-- How much a host lends, and the number of a batch that lends too much or too little.
 use mathlib.Core.Path.{_≡_}
 use mathlib.Core.Logic.{_↔_}
-use Prim.Native.Nat.{ℕ, _≤_}
+use mathlib.Core.Bool.{cond}
+use Prim.Native.Nat.{ℕ, _*_, _/_, _%_, _≤_}
+use lib.Dec.{eqb, ltb}
 use lib.ListN.{length}
-use Rattle.meaning.specs.Limits.{maxNodes}
+use Rattle.meaning.specs.Limits.{maxNodes, frameSize, answerSize, ILL-FORMED, NO-ROOM, RAGGED}
 use Rattle.meaning.specs.Lent.{Lent, size}
 use Rattle.meaning.specs.WellFormed.{SizesFit}
-use Rattle.host.specs.declared.sizes.Sizes.{Sizes}
+use Rattle.lending.specs.declared.Sizes.{Sizes}
 
 abbrev pub noSizes : Sizes
 noSizes = record { nodes = 0; used = 0; cells = 0; counts = 0; order = 0; versions = 0; «walk_numbers» = 0; «walk_nodes» = 0; «walk_indices» = 0 }
@@ -29,3 +31,7 @@ sizesOf s = record {
 pub record Sized (n : ℕ) (r : Sizes) : Type 0 where
   pub fits : 1 ≤ n → n ≤ maxNodes → (s : Lent) → (sizesOf s ≡ r) ↔ (SizesFit s × (size s ≡ n))
   pub none : (1 ≤ n → n ≤ maxNodes → ⊥) → r ≡ noSizes
+
+-- a batch on a state that can't be well-formed: batch checks run 13, 12, 11
+abbrev pub refusalOf : (asked room : ℕ) → ℕ
+refusalOf asked room = cond (eqb (asked % frameSize) 0) (cond (ltb room (answerSize * (asked / frameSize))) NO-ROOM ILL-FORMED) RAGGED

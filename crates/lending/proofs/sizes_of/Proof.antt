@@ -1,9 +1,9 @@
 -- Each end by the law of its range.
 use native.Mathlib.Omega.{arith}
 use borrow.Author.Needs.{needs}
-use Rattle.host.proofs.Sizing.{sized, none-below, none-above, at-least-one}
-use Rattle.host.proofs.sizes.jumperloft1_sizes.Statement.{statement}
-use Rattle.host.proofs.sizes.jumperloft1_sizes.Tie as tie
+use Rattle.lending.proofs.Sizing.{sized, none-below, none-above, at-least-one}
+use Rattle.lending.proofs.sizes_of.Statement.{statement}
+use Rattle.lending.proofs.sizes_of.Tie as tie
 
 no-sizes-requires : tie.Need-no-sizes-requires
 no-sizes-requires c κs = search needs
@@ -23,5 +23,5 @@ mul-t3 c = search needs
 returns-3 : tie.Need-returns-3
 returns-3 c = sized _ (at-least-one _ (c .before .if1 .left)) (c .if2 .left)
 
-pub jumperloft1-sizes-spec : {M : Type 1} → statement M
-jumperloft1-sizes-spec = tie.close (tie.spec no-sizes-requires returns no-sizes-requires-2 returns-2 mul-t3 returns-3)
+pub sizes-of-spec : {M : Type 1} → statement M
+sizes-of-spec = tie.close (tie.spec no-sizes-requires returns no-sizes-requires-2 returns-2 mul-t3 returns-3)

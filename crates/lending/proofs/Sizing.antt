@@ -6,8 +6,8 @@ use native.Mathlib.Omega.{arith}
 use Rattle.meaning.specs.Limits.{maxNodes, nodeCells}
 use Rattle.meaning.specs.Lent.{Lent, size}
 use Rattle.meaning.specs.WellFormed.{SizesFit}
-use Rattle.host.specs.declared.sizes.Sizes.{Sizes}
-use Rattle.host.specs.Lending.{noSizes, sizesOf, Sized}
+use Rattle.lending.specs.declared.Sizes.{Sizes}
+use Rattle.lending.specs.Lending.{noSizes, sizesOf, Sized}
 
 abbrev sizesFor : ℕ → Sizes
 sizesFor n = record { nodes = n; used = n; cells = nodeCells * n; counts = n; order = n; versions = 64; «walk_numbers» = 96; «walk_nodes» = 480; «walk_indices» = 480 }

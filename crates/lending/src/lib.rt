@@ -1,6 +1,6 @@
-// How much a host lends.
+// How much a host lends, and the number of a batch that lends too much or too little.
 ghost use mathlib.Core.Path.{_≡_};
-ghost use Rattle.host.specs.Lending.{noSizes, Sized};
+ghost use Rattle.lending.specs.Lending.{noSizes, Sized, refusalOf};
 
 const MAX_NODES: usize = 65536;
 
@@ -44,8 +44,7 @@ fn no_sizes() -> Sizes
 }
 
 // Of a state of so many nodes; all 0 where there is none.
-#[no_mangle]
-pub extern "C" fn jumperloft1_sizes(nodes: usize) -> Sizes
+pub fn sizes_of(nodes: usize) -> Sizes
     ensures { λ r. ⌜ Sized nodes r ⌝ }
 {
     if nodes == 0 {
@@ -65,4 +64,29 @@ pub extern "C" fn jumperloft1_sizes(nodes: usize) -> Sizes
         walk_nodes: WALK_LEVELS,
         walk_indices: WALK_LEVELS,
     }
+}
+
+// ---- numbers given back
+
+const FRAME_SIZE: usize = 12;
+
+const ANSWER_SIZE: usize = 6;
+
+const ILL_FORMED: u8 = 11;
+
+const NO_ROOM: u8 = 12;
+
+const RAGGED: u8 = 13;
+
+// The number of a batch whose table has another length.
+pub fn refusal_of_sizes(asked: usize, room: usize) -> u8
+    ensures { λ r. ⌜ r ≡ refusalOf asked room ⌝ }
+{
+    if asked % FRAME_SIZE != 0 {
+        return RAGGED;
+    }
+    if room < ANSWER_SIZE * (asked / FRAME_SIZE) {
+        return NO_ROOM;
+    }
+    ILL_FORMED
 }

@@ -1,8 +1,8 @@
 -- Each number by the tests that led to it.
 use borrow.Author.Needs.{needs}
-use Rattle.host.proofs.Batching.{ragged-number, room-number, table-number}
-use Rattle.host.proofs.refusal_of_sizes.Statement.{statement}
-use Rattle.host.proofs.refusal_of_sizes.Tie as tie
+use Rattle.lending.proofs.Refusing.{ragged-number, room-number, table-number}
+use Rattle.lending.proofs.refusal_of_sizes.Statement.{statement}
+use Rattle.lending.proofs.refusal_of_sizes.Tie as tie
 
 returns : tie.Need-returns
 returns c = ragged-number _ _ (c .if1 .taken)
