@@ -15,7 +15,7 @@ use Rattle.records.specs.declared.Version.{Version}
 use Rattle.records.specs.Records.{recordsOf}
 use Rattle.version_table.specs.Tables.{tableOf, stored}
 use Rattle.lending.specs.Lending.{refusalOf}
-use Rattle.batch.specs.Batched.{framesOf, stateAfter, Batches}
+use Rattle.batch.specs.Batched.{stateAfter, Batches}
 use Rattle.batch.proofs.Batching.{ragged, no-room, ill-formed}
 use Rattle.host.specs.declared.Done.{Done}
 use Rattle.host.specs.Reports.{doneWith, BatchesOf}

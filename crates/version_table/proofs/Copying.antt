@@ -2,19 +2,19 @@
 -- Assumes nothing.
 use mathlib.Core.Path.{_≡_, refl, sym, _∙_, subst}
 use mathlib.Core.Bool.{Bool, true, false, cond}
-use mathlib.Core.Logic.{_⊎_, inl, inr}
+use mathlib.Core.Logic.{inl, inr}
 use Prim.Native.Nat.{ℕ, _+_, _-_, _≤_, _<_, zero-le}
-use native.Mathlib.Nat.{eq-or-lt-of-le, lt-irrefl, le-trans, not-suc-le-zero}
+use native.Mathlib.Nat.{eq-or-lt-of-le, lt-irrefl, not-suc-le-zero}
 use native.Mathlib.Numerals.{add-one-le}
 use native.Mathlib.Omega.{arith}
 use mathlib.Core.WellFounded.{WellFounded, InvImage·wf}
 use mathlib.Core.List.{List}
-use lib.Dec.{T as Holds, eqb, eqb→eq}
+use lib.Dec.{T as Holds, eqb→eq}
 use lib.ListN.{length, getD, set, length-set}
 use lib.Seq.{ext-getD, getD-set-same, getD-set-other}
 use lib.WfN.{Nat·lt-wfRel}
 use Rattle.records.specs.declared.Version.{Version}
-use Rattle.version_table.specs.Tables.{blank, copies, copied}
+use Rattle.version_table.specs.Tables.{blank, copies}
 
 -- ---- one more record
 le-next : {j i : ℕ} → j < i + 1 → j ≤ i

@@ -1,5 +1,4 @@
 -- Each end by the law of its range.
-use native.Mathlib.Omega.{arith}
 use borrow.Author.Needs.{needs}
 use Rattle.lending.proofs.Sizing.{sized, none-below, none-above, at-least-one}
 use Rattle.lending.proofs.sizes_of.Statement.{statement}

@@ -1,5 +1,5 @@
 -- All or none, by the test that led there.
-use mathlib.Core.Path.{_≡_, sym, ap}
+use mathlib.Core.Path.{sym, ap}
 use mathlib.Core.Bool.{Bool, cond}
 use Rattle.version_table.proofs.how_many.Statement.{statement}
 use Rattle.version_table.proofs.how_many.Tie as tie

@@ -1,6 +1,6 @@
 -- `version_table::replace_at` meets its contract: a walk of its MIR, by hand. The borrow is opened, the record at i is taken out of the row and stored to whole, and the borrow is closed at the list with the new record in it.
 -- Assumes nothing.
-use mathlib.Core.Path.{_≡_, refl, sym, ap, subst}
+use mathlib.Core.Path.{refl, sym, ap, subst}
 use Prim.Native.Nat.{ℕ, _<_, _^_}
 use mathlib.Core.List.{List, [], _∷_}
 use lib.ListN.{length, set, length-set}

@@ -1,6 +1,6 @@
 -- `version_table::version_at` meets its contract: a walk of its MIR, by hand. The place of `versions[n]` is i * 16 past the slice's pointer; the borrow is looked into, the record is read there whole, and the borrow is shut.
 -- Assumes nothing.
-use mathlib.Core.Path.{_≡_, refl, sym}
+use mathlib.Core.Path.{refl, sym}
 use Prim.Native.Nat.{ℕ, _<_, _^_}
 use mathlib.Core.List.{List, [], _∷_}
 use lib.ListN.{length, getD}
