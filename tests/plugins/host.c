@@ -12,8 +12,8 @@
 enum { EVERY_OPERATION = 0x1FFFF, SECONDS_FOR_ONE = 20, THREAD_ROUNDS = 4, LOADINGS = 8 };
 
 static const char *const schedules[] = {
-    "AB abahba 2a Bb 1b A abhab 12",
-    "AB babhab 1b Aa 2a B bahba 21",
+    "AB abaha 2a Bb 1b A bhab 12",
+    "AB babhb 1b Aa 2a B ahba 21",
     "A a B b 1b h A ab 2a B ba 12",
     "A a 1 B b A ah 2a 1 BA bab 21",
 };

@@ -1,7 +1,7 @@
 // A plug-in in C: a seeded sequence of frames of its own party, in several batches on the lent state.
 #include "boundary.h"
 
-enum { BATCHES = 4, BATCH_FRAMES = 60, STEP_FRAMES = 6 };
+enum { BATCHES = 3, BATCH_FRAMES = 80, STEP_FRAMES = 6 };
 
 enum { NEW, CLONE, RELEASE, LENGTH, GET, SET, PUSH, DROP, OPEN, NEXT, NEXT_BACK, CLOSE,
     FIRST = 0x0E, LAST, COMPARE };

@@ -3,9 +3,15 @@
 here=$(dirname "$0")
 out=$2
 sh "$here/build.sh" "$1" "$out" || { echo 'plugins: FAILED, not built'; exit 1; }
+programs='plain rdynamic exporting harmful'
+running=
+for program in $programs; do
+    "$out/$program" "$out" $(cat "$out/plugins") >"$out/$program.said" &
+    running="$running $!"
+done
 failed=0
-for program in plain rdynamic exporting harmful; do
-    "$out/$program" "$out" $(cat "$out/plugins") >"$out/$program.said" || failed=1
+for one in $running; do wait "$one" || failed=1; done
+for program in $programs; do
     grep '^plugins: ' "$out/$program.said"
     grep -q '^counts ' "$out/$program.said" || { echo "plugins: FAILED, the program $program did not end"; failed=1; }
     cat "$out/$program.said" >>"$out/said"

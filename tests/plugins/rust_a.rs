@@ -5,8 +5,8 @@ const WALK_NUMBERS: usize = 96;
 const WALK_LEVELS: usize = 480;
 const FRAME_SIZE: usize = 12;
 const ANSWER_SIZE: usize = 6;
-const BATCHES: usize = 4;
-const BATCH_FRAMES: usize = 60;
+const BATCHES: usize = 3;
+const BATCH_FRAMES: usize = 80;
 const STEP_FRAMES: usize = 6;
 
 const NEW: u8 = 0x00;
