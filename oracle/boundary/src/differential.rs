@@ -2,6 +2,7 @@
 
 use crate::author::Author;
 use crate::ffi::{self, Report};
+use crate::lent::SLICES;
 use crate::pair::{Disagreement, Pair, ANSWER_SIZE, FRAME_SIZE};
 use session::frame::{Answer, Frame};
 use session::numbers::*;
@@ -154,34 +155,37 @@ impl Session {
         self.pair.batch(&frames, &answers, beyond)
     }
 
-    /// A batch with a piece of a frame, one answer's room too little, or a slice of another size: nothing is written.
+    /// A batch with a piece of a frame, too little room, or a slice of another size: nothing is written, nor by forming such slices.
     fn refused_batch(&mut self) -> Result<(), Disagreement> {
         let rng = &mut self.author.rng;
-        let lent = &mut self.pair.lent;
+        let mut lent = self.pair.lent.clone();
         let frames = 1 + rng.below(9);
         let mut requests: Vec<u8> = (0..FRAME_SIZE * frames).map(|_| rng.byte()).collect();
         let mut room = vec![rng.byte(); ANSWER_SIZE * frames];
-        let wrong = rng.below(8);
-        if wrong & 1 == 1 {
+        let wrong = 1 + rng.below(7);
+        let (ragged, no_room, ill_sized) = (wrong & 1 == 1, wrong & 2 == 2, wrong & 4 == 4);
+        if no_room {
+            room.truncate(rng.below(room.len()));
+        }
+        if ragged {
             requests.truncate(requests.len() - 1 - rng.below(FRAME_SIZE - 1));
         }
-        if wrong & 2 == 2 {
-            room.truncate(rng.below(ANSWER_SIZE * (requests.len() / FRAME_SIZE).max(1)));
+        if ill_sized {
+            lent.shorten(rng.below(SLICES));
         }
-        let short = (wrong & 4 == 4 || wrong == 0).then(|| lent.order.pop());
-        let number = match wrong {
-            1 | 3 | 5 | 7 => RAGGED,
-            2 | 6 => NO_ROOM,
+        let number = match (ragged, no_room) {
+            (true, _) => RAGGED,
+            (_, true) => NO_ROOM,
             _ => ILL_FORMED,
         };
         let (before, room_before) = (lent.clone(), room.clone());
-        let report = ffi::batch(lent, &requests, &mut room);
-        let wanted = Report { number, frames: 0 };
-        if report != wanted || *lent != before || room != room_before {
-            let told = format!("a batch to refuse: {report:?}, wanted {wanted:?}, or it wrote");
+        let report = ffi::batch(&mut lent, &requests, &mut room);
+        let refused = |number| Report { number, frames: 0 };
+        let forms_too = ill_sized && ffi::form(&mut lent) != refused(ILL_FORMED);
+        if report != refused(number) || lent != before || room != room_before || forms_too {
+            let told = format!("to be refused with {number}: {report:?}, or it wrote, or formed");
             return Err(Disagreement::of_batch(told));
         }
-        lent.order.extend(short.flatten());
         Ok(())
     }
 

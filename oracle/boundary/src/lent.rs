@@ -8,6 +8,7 @@ pub const WALKS: usize = 16;
 pub const WALK_NUMBERS: usize = 6;
 /// Levels of a walk's two stacks.
 pub const WALK_LEVELS: usize = 30;
+pub const SLICES: usize = 9;
 const FREE: u8 = 0;
 
 /// A version record.
@@ -74,6 +75,21 @@ impl Lent {
             walk_numbers: vec![JUNK; WALK_NUMBERS * WALKS],
             walk_nodes: vec![JUNK; WALK_LEVELS * WALKS],
             walk_indices: vec![-1; WALK_LEVELS * WALKS],
+        }
+    }
+
+    /// Takes the last element of one of the slices.
+    pub fn shorten(&mut self, slice: usize) {
+        match slice {
+            0 => drop(self.kinds.pop()),
+            1 => drop(self.used.pop()),
+            2 => drop(self.counts.pop()),
+            3 => drop(self.cells.pop()),
+            4 => drop(self.order.pop()),
+            5 => drop(self.versions.pop()),
+            6 => drop(self.walk_numbers.pop()),
+            7 => drop(self.walk_nodes.pop()),
+            _ => drop(self.walk_indices.pop()),
         }
     }
 
