@@ -35,7 +35,7 @@ enum {
     JUMPERLOFT1_NEW = 0x00,        /* an empty version in destination, index = bits */
     JUMPERLOFT1_CLONE = 0x01,      /* slot to destination */
     JUMPERLOFT1_RELEASE = 0x02,    /* slot */
-    JUMPERLOFT1_LENGTH = 0x03,     /* slot; answers the length */
+    JUMPERLOFT1_LEN = 0x03,        /* slot; answers the length */
     JUMPERLOFT1_GET = 0x04,        /* slot, index; answers the element */
     JUMPERLOFT1_SET = 0x05,        /* slot to destination, index, value */
     JUMPERLOFT1_PUSH_BACK = 0x06,  /* slot to destination, value */
@@ -55,20 +55,20 @@ enum {
 
 enum {
     JUMPERLOFT1_DONE = 0,
-    JUMPERLOFT1_NO_PARTY = 1,     /* party above 7 */
-    JUMPERLOFT1_NO_OPERATION = 2, /* operation above 10 hexadecimal */
-    JUMPERLOFT1_HOST_ONLY = 3,    /* hand-over or free nodes from a party other than 0 */
-    JUMPERLOFT1_NO_PLACE = 4,     /* a slot above 7, a walk above 1, or a named party above 7 */
-    JUMPERLOFT1_EMPTY = 5,        /* a named source slot is empty, or the walk is closed */
-    JUMPERLOFT1_TAKEN = 6,        /* the slot to be filled is live, or the walk to be opened is open */
-    JUMPERLOFT1_BAD_BITS = 7,     /* bits outside 1 to 5 */
-    JUMPERLOFT1_NOTHING = 8,      /* no element there, or the walk has ended */
-    JUMPERLOFT1_FULL = 9,         /* push on a length of 32,768 */
-    JUMPERLOFT1_NO_NODES = 10,    /* fewer free nodes than the charge */
-    JUMPERLOFT1_ILL_FORMED = 11,  /* the state is not well-formed, or its sizes don't fit */
-    JUMPERLOFT1_NO_ROOM = 12,     /* answer room below 6 bytes a frame */
-    JUMPERLOFT1_RAGGED = 13,      /* request bytes not a multiple of 12 */
-    JUMPERLOFT1_NO_FRAME = 14     /* the program only: a line that isn't a frame */
+    JUMPERLOFT1_NO_PARTY = 1,      /* party above 7 */
+    JUMPERLOFT1_NO_OPERATION = 2,  /* operation above 10 hexadecimal */
+    JUMPERLOFT1_HOST_ONLY = 3,     /* hand-over or free nodes from a party other than 0 */
+    JUMPERLOFT1_OUT_OF_RANGE = 4,  /* a slot above 7, a walk above 1, or a named party above 7 */
+    JUMPERLOFT1_EMPTY_SOURCE = 5,  /* a named source slot is empty, or the walk is closed */
+    JUMPERLOFT1_LIVE_TARGET = 6,   /* the slot to be filled is live, or the walk to be opened is open */
+    JUMPERLOFT1_BAD_BITS = 7,      /* bits outside 1 to 5 */
+    JUMPERLOFT1_NOTHING_THERE = 8, /* no element there, or the walk has ended */
+    JUMPERLOFT1_FULL = 9,          /* push on a length of 32,768 */
+    JUMPERLOFT1_NO_NODES = 10,     /* fewer free nodes than the charge */
+    JUMPERLOFT1_ILL_FORMED = 11,   /* the state is not well-formed, or its sizes don't fit */
+    JUMPERLOFT1_NO_ROOM = 12,      /* answer room below 6 bytes a frame */
+    JUMPERLOFT1_RAGGED = 13,       /* request bytes not a multiple of 12 */
+    JUMPERLOFT1_NOT_A_FRAME = 14   /* the program only: a line that isn't a frame */
 };
 
 /* ---- records */
