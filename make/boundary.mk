@@ -4,7 +4,7 @@ BOUNDARY = JUMPERLOFT_HOST_LIBRARY='$(abspath $(BUILT_LIBRARY))' cargo run --qui
 BOUNDARY_SKIPPED = if ! command -v cargo >/dev/null 2>&1; then echo '$@: SKIPPED, there is no cargo on this machine'; \
 	elif ! [ -f "$$JUMPERLOFT_ORIGINAL" ]; then echo "$@: SKIPPED, the original's text is not at $$JUMPERLOFT_ORIGINAL"
 
-.PHONY: boundary soak-boundary
+.PHONY: boundary soak-boundary bench
 
 # the pool exhausted at each call, random sessions, and every short sequence
 boundary: host-library
@@ -15,3 +15,8 @@ boundary: host-library
 soak-boundary: host-library
 	@$(BOUNDARY_SKIPPED); \
 	else cd oracle && $(BOUNDARY) differential --frames 10000000 --seed 2; fi
+
+# docs/SPEED.md's figures beside the original, printed as a table, and their plot
+bench: host-library
+	@$(BOUNDARY_SKIPPED); \
+	else cd oracle && $(BOUNDARY) bench ../docs/speed.svg; fi

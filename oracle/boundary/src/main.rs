@@ -1,6 +1,7 @@
 //! Holds the static library of the crate `host`, by its C functions, against the model made of the original's vectors.
 
 mod author;
+mod bench;
 mod calls;
 mod differential;
 mod exhaust;
@@ -11,6 +12,7 @@ mod scenes;
 mod sequences;
 
 use std::env;
+use std::path::Path;
 use std::process::ExitCode;
 
 const FRAMES: usize = 2_000_000;
@@ -18,7 +20,8 @@ const SEED: u64 = 1;
 
 const USAGE: &str = "usage: boundary exhaust
        boundary differential [--frames N] [--seed S]
-       boundary sequences";
+       boundary sequences
+       boundary bench PLOT [--rounds N] [--row NAME]";
 
 fn main() -> ExitCode {
     let arguments: Vec<String> = env::args().skip(1).collect();
@@ -39,6 +42,7 @@ fn run(arguments: &[&str]) -> Option<bool> {
         ["exhaust"] => Some(exhaust::exhaust()),
         ["sequences"] => Some(sequences::sequences()),
         ["differential", options @ ..] => differential(options),
+        ["bench", plot, options @ ..] => bench(plot, options),
         _ => None,
     }
 }
@@ -53,4 +57,16 @@ fn differential(options: &[&str]) -> Option<bool> {
         }
     }
     Some(differential::differential(frames, seed))
+}
+
+fn bench(plot: &str, options: &[&str]) -> Option<bool> {
+    let (mut rounds, mut name) = (bench::ROUNDS, "");
+    for option in options.chunks(2) {
+        match option {
+            ["--rounds", number] => rounds = number.parse().ok().filter(|rounds| *rounds > 0)?,
+            ["--row", text] => name = text,
+            _ => return None,
+        }
+    }
+    Some(bench::bench(Path::new(plot), rounds, name))
 }

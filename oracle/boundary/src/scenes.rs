@@ -70,6 +70,11 @@ pub fn hand_over(to: u8) -> Frame {
     }
 }
 
+/// What a grown list has at an index.
+pub fn element(index: u32) -> u32 {
+    index.wrapping_mul(0x9e37_79b9)
+}
+
 impl Scene {
     pub fn frames(&self) -> Vec<Frame> {
         let mut frames = self.grown();
@@ -119,9 +124,8 @@ impl Scene {
             ..frame(NEW, 0, from)
         }];
         for number in 0..self.length {
-            let value = number.wrapping_mul(0x9e37_79b9);
             frames.push(Frame {
-                value,
+                value: element(number),
                 ..frame(PUSH_BACK, from, to)
             });
             frames.push(frame(RELEASE, from, 0));

@@ -1,0 +1,92 @@
+//! Our side: frames made beforehand, sent in batches, their answers read.
+
+use super::row::{Row, Work, POOL};
+use super::runner::{sum_in_order, Runner};
+use crate::ffi;
+use crate::lent::Lent;
+use session::frame::Frame;
+
+const ANSWER: usize = 6;
+/// Frames a batch while the state before a run is made.
+const FRAMES_BEFORE: usize = 16_384;
+
+pub struct Ours {
+    row: Row,
+    before: Lent,
+    lent: Lent,
+    batches: Vec<Vec<u8>>,
+    room: Vec<u8>,
+    answered: u64,
+}
+
+impl Ours {
+    pub fn new(row: Row) -> Ours {
+        let mut before = Lent::unformed(POOL);
+        assert_eq!(ffi::form(&mut before).number, 0);
+        let mut room = Vec::new();
+        for batch in batches(&row.frames_before(), FRAMES_BEFORE) {
+            send(&mut before, &batch, &mut room);
+        }
+        let batches = match row.work {
+            Work::Audit => vec![Vec::new()],
+            _ => batches(&row.frames(), row.frames_a_batch().max(1)),
+        };
+        Ours {
+            row,
+            lent: before.clone(),
+            before,
+            batches,
+            room,
+            answered: 0,
+        }
+    }
+}
+
+impl Runner for Ours {
+    fn prepare(&mut self) {
+        if self.row.edits() {
+            self.lent.clone_from(&self.before);
+        }
+    }
+
+    fn run(&mut self) {
+        if self.row.work == Work::Form {
+            assert_eq!(ffi::form(&mut self.lent).number, 0);
+        }
+        self.answered = 0;
+        for batch in &self.batches {
+            self.answered += send(&mut self.lent, batch, &mut self.room);
+        }
+    }
+
+    fn sum(&self) -> u64 {
+        let live = self
+            .lent
+            .versions
+            .iter()
+            .filter(|version| version.live == 1);
+        live.fold(self.answered, |sum, version| {
+            sum_in_order(sum, self.lent.elements(version).into_iter())
+        })
+    }
+}
+
+fn batches(frames: &[Frame], frames_a_batch: usize) -> Vec<Vec<u8>> {
+    let bytes = |frames: &[Frame]| frames.iter().flat_map(Frame::bytes).collect();
+    frames.chunks(frames_a_batch).map(bytes).collect()
+}
+
+/// Adds up the values answered; every frame must be done.
+fn send(lent: &mut Lent, batch: &[u8], room: &mut Vec<u8>) -> u64 {
+    room.resize(batch.len() / 2, 0);
+    assert_eq!(ffi::batch(lent, batch, room).number, 0);
+    let (mut refused, mut sum) = (0, 0);
+    for answer in room.chunks_exact(ANSWER) {
+        refused |= answer[0];
+        sum += u64::from(u32::from_be_bytes([
+            answer[2], answer[3], answer[4], answer[5],
+        ]));
+    }
+    assert_eq!(refused, 0, "a frame is refused");
+    sum
+}
