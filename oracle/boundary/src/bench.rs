@@ -11,10 +11,9 @@ use beside::{Flat, Original};
 use ours::Ours;
 use row::{rows, Row};
 use runner::{by_turns, Runner, Times};
+pub use runner::{Effort, FULL};
 use std::fs;
 use std::path::Path;
-
-pub const ROUNDS: usize = 15;
 
 pub struct Measured {
     row: Row,
@@ -31,9 +30,9 @@ impl Measured {
 }
 
 /// Prints the table and writes the plot; answers whether all sums agree.
-pub fn bench(plot: &Path, rounds: usize, name: &str) -> bool {
+pub fn bench(plot: &Path, effort: Effort, name: &str) -> bool {
     let rows = rows().into_iter().filter(|row| row.title().contains(name));
-    let measured: Option<Vec<Measured>> = rows.map(|row| measure(row, rounds)).collect();
+    let measured: Option<Vec<Measured>> = rows.map(|row| measure(row, effort)).collect();
     let Some(measured) = measured else {
         return false;
     };
@@ -41,7 +40,7 @@ pub fn bench(plot: &Path, rounds: usize, name: &str) -> bool {
         println!("no row is named so: {name}");
         return false;
     }
-    print!("{}", table::table(&measured, rounds));
+    print!("{}", table::table(&measured));
     if let Err(error) = fs::write(plot, plot::plot(&measured)) {
         println!("{}: {error}", plot.display());
         return false;
@@ -50,14 +49,14 @@ pub fn bench(plot: &Path, rounds: usize, name: &str) -> bool {
 }
 
 /// Nothing where the sums differ.
-fn measure(row: Row, rounds: usize) -> Option<Measured> {
+fn measure(row: Row, effort: Effort) -> Option<Measured> {
     let ours = Some(Ours::new(row));
     let mut runners = [
         boxed(ours),
         boxed(Original::new(row)),
         boxed(Flat::new(row)),
     ];
-    let [ours, original, flat] = by_turns(&mut runners, rounds);
+    let [ours, original, flat] = by_turns(&mut runners, effort);
     let sums: Vec<u64> = runners.iter().flatten().map(|it| it.sum()).collect();
     if sums.iter().any(|sum| *sum != sums[0]) {
         println!("{}: sums differ, {sums:?}", row.title());

@@ -60,13 +60,16 @@ fn differential(options: &[&str]) -> Option<bool> {
 }
 
 fn bench(plot: &str, options: &[&str]) -> Option<bool> {
-    let (mut rounds, mut name) = (bench::ROUNDS, "");
+    let (mut effort, mut name) = (bench::FULL, "");
     for option in options.chunks(2) {
         match option {
-            ["--rounds", number] => rounds = number.parse().ok().filter(|rounds| *rounds > 0)?,
+            ["--rounds", number] => {
+                let rounds = number.parse().ok().filter(|rounds| *rounds > 0)?;
+                effort = bench::Effort::exactly(rounds);
+            }
             ["--row", text] => name = text,
             _ => return None,
         }
     }
-    Some(bench::bench(Path::new(plot), rounds, name))
+    Some(bench::bench(Path::new(plot), effort, name))
 }

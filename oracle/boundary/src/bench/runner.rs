@@ -1,6 +1,26 @@
 //! Runs taken by turns, and their times.
 
-use std::time::Instant;
+use std::time::{Duration, Instant};
+
+/// How often each row is taken: so many times, and on until the time is over.
+#[derive(Clone, Copy, Debug)]
+pub struct Effort {
+    rounds: usize,
+    time: Duration,
+}
+
+/// A row of short runs is taken often, so that no short disturbance decides it.
+pub const FULL: Effort = Effort {
+    rounds: 15,
+    time: Duration::from_secs(1),
+};
+
+impl Effort {
+    pub fn exactly(rounds: usize) -> Effort {
+        let time = Duration::ZERO;
+        Effort { rounds, time }
+    }
+}
 
 pub trait Runner {
     /// Makes the state before the run, where the last run changed it.
@@ -14,6 +34,7 @@ pub trait Runner {
 /// Seconds of one run.
 #[derive(Clone, Copy, Debug)]
 pub struct Times {
+    pub count: usize,
     pub median: f64,
     pub least: f64,
     pub most: f64,
@@ -24,6 +45,7 @@ impl Times {
     fn of(mut times: Vec<f64>) -> Option<Times> {
         times.sort_by(f64::total_cmp);
         Some(Times {
+            count: times.len(),
             median: *times.get(times.len() / 2)?,
             least: *times.first()?,
             most: *times.last()?,
@@ -34,10 +56,12 @@ impl Times {
 /// By turns, so that what slows the machine slows all; each timed run has one before it that is not.
 pub fn by_turns<const N: usize>(
     runners: &mut [Option<Box<dyn Runner>>; N],
-    rounds: usize,
+    effort: Effort,
 ) -> [Option<Times>; N] {
     let mut times = [const { Vec::new() }; N];
-    for _ in 0..rounds {
+    let (begin, mut rounds) = (Instant::now(), 0);
+    while rounds < effort.rounds || begin.elapsed() < effort.time {
+        rounds += 1;
         for (runner, times) in runners.iter_mut().zip(&mut times) {
             let Some(runner) = runner else { continue };
             runner.prepare();

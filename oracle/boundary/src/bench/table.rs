@@ -8,11 +8,10 @@ use std::fmt::Write;
 const NANO: f64 = 1e9;
 const MICRO: f64 = 1e6;
 
-pub fn table(measured: &[Measured], rounds: usize) -> String {
-    let mut text = format!(
-        "Medians of {rounds} repetitions, with the least and the most; nanoseconds an element, or microseconds a call (µs).\n\n\
-         | what | bits | frames a batch | ours | the original | a flat array | ours / original |\n\
-         |---|---|---|---|---|---|---|\n"
+pub fn table(measured: &[Measured]) -> String {
+    let mut text = String::from(
+        "| what | bits | frames a batch | repetitions | ours | the original | a flat array | ours / original |\n\
+         |---|---|---|---|---|---|---|---|\n",
     );
     for line in measured {
         let row = line.row;
@@ -28,10 +27,10 @@ pub fn table(measured: &[Measured], rounds: usize) -> String {
         let ratio = line.ratio().map_or(String::new(), figure);
         let (ours, original) = (figures(row, line.ours), cell(line.original));
         let flat = cell(line.flat);
-        let name = row.name();
+        let (name, count) = (row.name(), grouped(line.ours.count as f64));
         writeln!(
             text,
-            "| {name} | {bits} | {batch} | {ours} | {original} | {flat} | {ratio} |"
+            "| {name} | {bits} | {batch} | {count} | {ours} | {original} | {flat} | {ratio} |"
         )
         .expect("a string can be written");
     }
