@@ -14,7 +14,7 @@ MISUSE = tests/c/misuse.c tests/c/refusals.c tests/c/damaged.c tests/c/checks.c 
 C_SHORT ?= 300
 C_SEED ?= 1
 
-.PHONY: install host-library c-prefix examples c-tests snippet
+.PHONY: install host-library c-prefix examples c-tests snippet bench-table
 
 host-library:
 	@mkdir -p target
@@ -67,3 +67,7 @@ snippet: host-library
 	$(CC) $(C_FLAGS) readme.c $$(pkg-config --cflags --libs jumperloft) -o readme && \
 	./readme >readme.out && diff readme.expected readme.out && \
 	echo 'snippet: compiled against an installed library, and it says what it should'
+
+# what the version table costs at the boundary
+bench-table: c-prefix
+	@$(CC) $(C_FLAGS) -D_POSIX_C_SOURCE=199309L tests/c/table_cost.c $(C_LINKED) -o $(C_OUT)/table_cost && $(C_OUT)/table_cost
