@@ -40,6 +40,11 @@ examples: c-prefix
 	@$(C_OUT)/host ./$(C_OUT)/plugin.so >$(C_OUT)/host.out
 	@diff examples/host.expected $(C_OUT)/host.out
 	@echo 'examples: the host and its plug-in say what they should, and the plug-in exports plugin_edit alone'
+	@if ! command -v cargo >/dev/null 2>&1; then echo 'examples: the plug-in in Rust SKIPPED, there is no cargo on this machine'; \
+	else JUMPERLOFT_LIBRARY='$(abspath $(BUILT_LIBRARY))' RUSTFLAGS='-C link-arg=-Wl,--exclude-libs,ALL' \
+	cargo build --quiet --release --offline --manifest-path examples/plugin_rust/Cargo.toml --target-dir $(C_OUT)/plugin_rust && \
+	$(C_OUT)/host ./$(C_OUT)/plugin_rust/release/libplugin_rust.so >$(C_OUT)/host.out && diff examples/host.expected $(C_OUT)/host.out && \
+	echo 'examples: the plug-in in Rust makes the same of it'; fi
 
 c-tests: c-prefix
 	@sh tests/c/symbols.sh '$(C_PREFIX)/lib/libjumperloft.a'
