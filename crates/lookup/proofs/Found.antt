@@ -1,33 +1,57 @@
 -- What the descent finds is the element; and the element is what the contents have there.
-use mathlib.Core.Path.{_≡_, refl, sym, _∙_}
-use mathlib.Core.Logic.{_≢_}
+use mathlib.Core.Path.{_≡_, refl, sym, ap, _∙_}
 use mathlib.Core.List.{List}
-use Prim.Native.Nat.{ℕ, zero, suc, _+_, _-_, _*_, _≤_, _<_}
+use Prim.Native.Nat.{ℕ, zero, suc, _+_, _-_, _*_, _/_, _%_, _^_, _≤_, _<_}
+use native.Mathlib.Nat.{lt-irrefl, add-comm, suc-mul, div-div-eq-div-mul}
 use native.Mathlib.Omega.{arith}
+use lib.Pow.{pow-add}
 use lib.ListN.{length, getD}
 use borrow.Author.Tests.{lt-ltb, le-ltb}
 use Rattle.meaning.specs.Limits.{nodeCells}
 use Rattle.meaning.specs.Lent.{Nodes}
 use Rattle.meaning.specs.Lent.{VersionRecord}
-use Rattle.meaning.specs.Shape.{bucket}
+use Rattle.meaning.specs.Shape.{degree, bucket}
 use Rattle.meaning.specs.Trees.{heightOf, element, contents}
 use Rattle.meaning.proofs.Rows.{rows-length, rows-at}
 use Rattle.records.specs.Records.{recordOf}
 use Rattle.records.specs.declared.Version.{Version}
-use Rattle.lookup.specs.Lookup.{elementIn, got}
+use Rattle.lookup.specs.Lookup.{leafIn, elementIn, got}
 use Rattle.lookup.specs.declared.Got.the-variants.{Element, Nothing}
 
 -- ---- the descent
 
-pub leaf-found : (cells : List ℕ) (bits h n i b r : ℕ) → h ≡ 0 → b ≡ bucket bits h i → r ≡ getD cells (nodeCells * n + b) 0 → r ≡ elementIn cells bits h n i
-unfolding element
-leaf-found cells bits h n i b r e f g = rw (g, f, e)
+module _ (cells : List ℕ) (bits index : ℕ) where
+  -- a turn of the way down
+  pub leaf-below : (h n b c : ℕ) → 0 < h → b ≡ bucket bits h index → c ≡ getD cells (nodeCells * n + b) 0 → leafIn cells bits (h - 1) c index ≡ leafIn cells bits h n index
+  unfolding leafIn
+  leaf-below zero n b c l e f = absurd (lt-irrefl zero l)
+  leaf-below (suc h) n b c l e f = let s : suc h - 1 ≡ h = omega arith in rw (s, f, e)
 
-pub branch-found : (cells : List ℕ) (bits h n i b c r : ℕ) → h ≢ 0 → b ≡ bucket bits h i → c ≡ getD cells (nodeCells * n + b) 0
-    → r ≡ elementIn cells bits (h - 1) c i → r ≡ elementIn cells bits h n i
-unfolding element
-branch-found cells bits zero n i b c r f e g k = absurd (f refl)
-branch-found cells bits (suc h) n i b c r f e g k = let s : suc h - 1 ≡ h = omega arith in rw (k, s, g, e)
+  pub leaf-reached : (h n : ℕ) → h ≤ 0 → n ≡ leafIn cells bits h n index
+  unfolding leafIn
+  leaf-reached h n l = let s : h ≡ 0 = omega arith in rw s
+
+  element-there : (h n : ℕ) → getD cells (nodeCells * leafIn cells bits h n index + bucket bits 0 index) 0 ≡ elementIn cells bits h n index
+  unfolding leafIn element
+  element-there zero n = refl
+  element-there (suc h) n = element-there h _
+
+  -- in the leaf's cell of the index
+  pub element-found : (h n m b r : ℕ) → m ≡ leafIn cells bits h n index → b ≡ bucket bits 0 index → r ≡ getD cells (nodeCells * m + b) 0 → r ≡ elementIn cells bits h n index
+  element-found h n m b r e f g = g ∙ rw (f, e) (element-there h n)
+
+-- all indices of one block have one leaf
+bucket-same : (b k i j : ℕ) → i / 2 ^ b ≡ j / 2 ^ b → bucket b (suc k) i ≡ bucket b (suc k) j
+unfolding bucket
+bucket-same b k i j e =
+    let split : (n : ℕ) → n / 2 ^ (suc k * b) ≡ n / 2 ^ b / 2 ^ (k * b) = λ n. rw (suc-mul k b, add-comm (k * b) b, pow-add 2 b (k * b)) (sym (div-div-eq-div-mul n (2 ^ b) (2 ^ (k * b)))) in
+    ap (λ (n : ℕ). n % degree b) (split i ∙ (ap (λ (n : ℕ). n / 2 ^ (k * b)) e ∙ sym (split j)))
+
+pub leaf-same : (cells : List ℕ) (bits h n i j : ℕ) → i / 2 ^ bits ≡ j / 2 ^ bits → leafIn cells bits h n i ≡ leafIn cells bits h n j
+unfolding leafIn
+leaf-same cells bits zero n i j e = refl
+leaf-same cells bits (suc h) n i j e =
+    ap (λ (b : ℕ). leafIn cells bits h (getD cells (nodeCells * n + b) 0) i) (bucket-same bits h i j e) ∙ leaf-same cells bits h _ i j e
 
 -- the shift falls with the height
 pub shift-below : (bits h w : ℕ) → h * bits < w → (h - 1) * bits < w

@@ -8,7 +8,7 @@ ghost use lib.ListN.{getD};
 ghost use Rattle.meaning.specs.Limits.{nodeCells, wordWidth};
 ghost use Rattle.meaning.specs.WellFormed.{LegalBits};
 ghost use Rattle.shape.specs.Legal.{Legal};
-ghost use Rattle.lookup.specs.Lookup.{elementIn, got};
+ghost use Rattle.lookup.specs.Lookup.{leafIn, elementIn, got};
 
 // A cell of a node, or 0 where there is none: no caller has to show that a node is there.
 pub fn cell_at(cells: &[u32], node: NodeNo, i: u32) -> u32
@@ -21,18 +21,31 @@ pub fn cell_at(cells: &[u32], node: NodeNo, i: u32) -> u32
     0
 }
 
+// The leaf of an index below a node of that height.
+pub fn leaf(cells: &[u32], bits: u32, height: u32, node: NodeNo, index: u32) -> NodeNo
+    requires legal { ⌜ LegalBits bits ⌝ }
+    requires shift { ⌜ height * bits < wordWidth ⌝ }
+    ensures { λ r. ⌜ r .0 ≡ leafIn (now (cells .entry)) bits height (node .0) index ⌝ }
+{
+    let mut n = node.0;
+    let mut h = height;
+    while h > 0 {
+        let b = vector_utils::bucket(bits, index, h);
+        n = cell_at(cells, NodeNo(n), b);
+        h -= 1;
+    }
+    NodeNo(n)
+}
+
 // The element at an index below a node of that height.
 pub fn element(cells: &[u32], bits: u32, height: u32, node: NodeNo, index: u32) -> u32
     requires legal { ⌜ LegalBits bits ⌝ }
     requires shift { ⌜ height * bits < wordWidth ⌝ }
     ensures { λ r. ⌜ r ≡ elementIn (now (cells .entry)) bits height (node .0) index ⌝ }
 {
-    let b = vector_utils::bucket(bits, index, height);
-    let c = cell_at(cells, node, b);
-    if height == 0 {
-        return c;
-    }
-    element(cells, bits, height - 1, NodeNo(c), index)
+    let n = leaf(cells, bits, height, node, index);
+    let b = vector_utils::bucket(bits, index, 0);
+    cell_at(cells, n, b)
 }
 
 pub fn len(v: Version) -> u32
