@@ -2,7 +2,11 @@
 use mathlib.Core.Path.{_≡_, refl, sym, ap, _∙_}
 use mathlib.Core.Bool.{Bool, cond, not, _&&_, _||_}
 use mathlib.Core.List.{[], _∷_, map}
-use Prim.Native.Nat.{ℕ, _+_, _≤_}
+use Prim.Native.Nat.{ℕ, zero, suc, _+_, _≤_}
+use mathlib.Core.Logic.{_≢_}
+use native.Mathlib.Nat.{lt-irrefl}
+use native.Mathlib.Omega.{arith}
+use borrow.Author.Tests.{ne-eqb}
 use lib.Dec.{ltb, eqb}
 use lib.Bits.{bitAnd}
 use lib.ListN.{length, getD, List·getD-map, List·getD-eq-default}
@@ -10,6 +14,7 @@ use Rattle.meaning.specs.Limits.{DONE, lastParty, lastSlot, lastWalk, lastOpera
 use Rattle.meaning.specs.Frames.{Frame}
 use Rattle.meaning.specs.Operations.{Op, new, clone, release, len, get, set-at, push-back, drop-last, open-walk, next, next-back, close-walk, hand-over, free-nodes, first, last, compare, unknown, operations, opOf, anyone, hostAlone, uses, ownerOr, giver, taker}
 use Rattle.meaning.specs.Checks.{_if_, firstOf}
+use Rattle.requests.specs.Numbers.{HAND-OVER}
 use Rattle.frames.specs.Seen.{Standing, isOut, isMissing, isOtherMissing, isTaken, entryChecks}
 use Rattle.refusals.specs.Flags.{SOURCE, WALKED, FILLED, OPENED, OTHER, OWNERS, HOST-ALONE, flagOf, flagsOf}
 
@@ -29,34 +34,36 @@ has u m = not (eqb (bitAnd u m) 0)
 
 -- ---- whose slots and walks
 
-owners : (o : Op) (n c : ℕ) → (cond (has (flagsOf o) OWNERS) n c ≡ ownerOr (uses o .index) n c) × (cond (has (flagsOf o) OWNERS) n c ≡ ownerOr (uses o .value) n c)
-unfolding ownerOr flagsOf flagOf uses anyone hostAlone
-owners new n c = (refl, refl)
-owners clone n c = (refl, refl)
-owners release n c = (refl, refl)
-owners len n c = (refl, refl)
-owners get n c = (refl, refl)
-owners set-at n c = (refl, refl)
-owners push-back n c = (refl, refl)
-owners drop-last n c = (refl, refl)
-owners open-walk n c = (refl, refl)
-owners next n c = (refl, refl)
-owners next-back n c = (refl, refl)
-owners close-walk n c = (refl, refl)
-owners hand-over n c = (refl, refl)
-owners free-nodes n c = (refl, refl)
-owners first n c = (refl, refl)
-owners last n c = (refl, refl)
-owners compare n c = (refl, refl)
-owners unknown n c = (refl, refl)
+owners : (n x c : ℕ)
+    → (cond (eqb n HAND-OVER) x c ≡ ownerOr (uses (getD operations n unknown) .index) x c)
+    × (cond (eqb n HAND-OVER) x c ≡ ownerOr (uses (getD operations n unknown) .value) x c)
+unfolding operations ownerOr uses anyone hostAlone
+owners zero x c = (refl, refl)
+owners (suc zero) x c = (refl, refl)
+owners (suc (suc zero)) x c = (refl, refl)
+owners (suc (suc (suc zero))) x c = (refl, refl)
+owners (suc (suc (suc (suc zero)))) x c = (refl, refl)
+owners (suc (suc (suc (suc (suc zero))))) x c = (refl, refl)
+owners (suc (suc (suc (suc (suc (suc zero)))))) x c = (refl, refl)
+owners (suc (suc (suc (suc (suc (suc (suc zero))))))) x c = (refl, refl)
+owners (suc (suc (suc (suc (suc (suc (suc (suc zero)))))))) x c = (refl, refl)
+owners (suc (suc (suc (suc (suc (suc (suc (suc (suc zero))))))))) x c = (refl, refl)
+owners (suc (suc (suc (suc (suc (suc (suc (suc (suc (suc zero)))))))))) x c = (refl, refl)
+owners (suc (suc (suc (suc (suc (suc (suc (suc (suc (suc (suc zero))))))))))) x c = (refl, refl)
+owners (suc (suc (suc (suc (suc (suc (suc (suc (suc (suc (suc (suc zero)))))))))))) x c = (refl, refl)
+owners (suc (suc (suc (suc (suc (suc (suc (suc (suc (suc (suc (suc (suc zero))))))))))))) x c = (refl, refl)
+owners (suc (suc (suc (suc (suc (suc (suc (suc (suc (suc (suc (suc (suc (suc zero)))))))))))))) x c = (refl, refl)
+owners (suc (suc (suc (suc (suc (suc (suc (suc (suc (suc (suc (suc (suc (suc (suc zero))))))))))))))) x c = (refl, refl)
+owners (suc (suc (suc (suc (suc (suc (suc (suc (suc (suc (suc (suc (suc (suc (suc (suc zero)))))))))))))))) x c = (refl, refl)
+owners (suc (suc (suc (suc (suc (suc (suc (suc (suc (suc (suc (suc (suc (suc (suc (suc (suc n))))))))))))))))) x c = let other : suc (suc (suc (suc (suc (suc (suc (suc (suc (suc (suc (suc (suc (suc (suc (suc (suc n)))))))))))))))) ≢ HAND-OVER = λ e. lt-irrefl 0 (omega arith) in rw (ne-eqb (suc (suc (suc (suc (suc (suc (suc (suc (suc (suc (suc (suc (suc (suc (suc (suc (suc n))))))))))))))))) HAND-OVER other) (refl, refl)
 
-pub giver-is : (f : Frame) (u r : ℕ) → u ≡ flagsOf (opOf f) → r ≡ cond (has u OWNERS) (f .index) (f .party) → r ≡ giver f
-unfolding giver
-giver-is f u r e h = h ∙ (ap (λ (n : ℕ). cond (has n OWNERS) (f .index) (f .party)) e ∙ owners (opOf f) _ _ .0)
+pub giver-is : (f : Frame) (r : ℕ) → r ≡ cond (eqb (f .operation) HAND-OVER) (f .index) (f .party) → r ≡ giver f
+unfolding giver opOf
+giver-is f r h = h ∙ owners (f .operation) (f .index) (f .party) .0
 
-pub taker-is : (f : Frame) (u r : ℕ) → u ≡ flagsOf (opOf f) → r ≡ cond (has u OWNERS) (f .value) (f .party) → r ≡ taker f
-unfolding taker
-taker-is f u r e h = h ∙ (ap (λ (n : ℕ). cond (has n OWNERS) (f .value) (f .party)) e ∙ owners (opOf f) _ _ .1)
+pub taker-is : (f : Frame) (r : ℕ) → r ≡ cond (eqb (f .operation) HAND-OVER) (f .value) (f .party) → r ≡ taker f
+unfolding taker opOf
+taker-is f r h = h ∙ owners (f .operation) (f .value) (f .party) .1
 
 -- ---- the checks
 

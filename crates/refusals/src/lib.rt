@@ -1,5 +1,6 @@
-// The frame checks 1 to 6, and whose slots and walks a frame names. All of them read one table of what an operation uses.
+// The frame checks 1 to 6, from one table of what an operation uses, and whose slots and walks a frame names.
 use requests::Frame;
+use requests::operations;
 ghost use mathlib.Core.Path.{_≡_};
 ghost use mathlib.Core.Bool.{cond};
 ghost use Rattle.meaning.specs.Limits.{lastSlot, lastWalk};
@@ -94,7 +95,7 @@ fn uses_of(f: Frame) -> u8
     0
 }
 
-// ---- whose slots and walks a frame names
+// ---- whose slots and walks a frame names: asked of every frame, so not read from the table
 
 fn owner(named: bool, party: u32, caller: u8) -> u32
     ensures { λ r. ⌜ r ≡ cond named party caller ⌝ }
@@ -109,14 +110,14 @@ fn owner(named: bool, party: u32, caller: u8) -> u32
 pub fn giver(f: Frame) -> u32
     ensures { λ r. ⌜ r ≡ meaning.giver (frameOf f) ⌝ }
 {
-    owner(uses_of(f) & OWNERS != 0, f.index, f.party)
+    owner(f.operation == operations::HAND_OVER, f.index, f.party)
 }
 
 // The party whose slot or walk is changed.
 pub fn taker(f: Frame) -> u32
     ensures { λ r. ⌜ r ≡ meaning.taker (frameOf f) ⌝ }
 {
-    owner(uses_of(f) & OWNERS != 0, f.value, f.party)
+    owner(f.operation == operations::HAND_OVER, f.value, f.party)
 }
 
 // ---- the checks

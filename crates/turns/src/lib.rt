@@ -63,7 +63,8 @@ pub fn changed_place(f: Frame, source: usize, target: usize) -> usize
 
 // ---- serving
 
-fn is_open(numbers: &[u32; ROOM], party: u32, walk: u8) -> bool
+// A walk that is not there is closed.
+pub fn is_open(numbers: &[u32; ROOM], party: u32, walk: u8) -> bool
     ensures { λ r. ⌜ r ≡ isOpenAt (now (numbers .entry)) party walk ⌝ }
 {
     let there = (party < PARTIES) & (walk < PARTY_WALKS);

@@ -4,14 +4,13 @@ use Rattle.refusals.proofs.Refusing.{taker-is}
 use Rattle.refusals.proofs.taker.Statement.{statement}
 use Rattle.refusals.proofs.taker.Tie as tie
 
-uses-of-requires : tie.Need-uses-of-requires
-uses-of-requires c κs = search needs
-
+-- src/lib.rt:120:5
 owner-requires : tie.Need-owner-requires
 owner-requires c κs = search needs
 
+-- src/lib.rt:117:1
 returns : tie.Need-returns
-returns c = taker-is (frameOf (c .before .before .args .f)) _ _ (c .before .uses-of .ensures) (c .owner .ensures)
+returns c = taker-is (frameOf (c .before .before .args .f)) _ (c .owner .ensures)
 
 pub taker-spec : {M : Type 1} → statement M
-taker-spec = tie.close (tie.spec uses-of-requires owner-requires returns)
+taker-spec = tie.close (tie.spec owner-requires returns)
