@@ -34,6 +34,16 @@ unfoldable pub dugDown : (cells used : List ℕ) → (back : Bool) → (h : ℕ)
 dugDown cs us b zero w k = w
 dugDown cs us b (suc h) w k = dugDown cs us b h (dug cs us b w (k + h)) k
 
+-- h levels are popped below place k + h, down to k
+unfoldable pub poppedDown : (h : ℕ) → Levels → (k : ℕ) → Levels
+poppedDown zero w k = w
+poppedDown (suc h) w k = poppedDown h (popped w (k + h)) k
+
+-- h levels that have finished, below place k + h, follow what became of those above them, down to k
+unfoldable pub renewedDown : (cells used : List ℕ) → (back : Bool) → (h : ℕ) → Out → (k : ℕ) → Out
+renewedDown cs us b zero r k = r
+renewedDown cs us b (suc h) r k = renewedDown cs us b h (renewed cs us b r (k + h)) k
+
 -- before anything is taken the stack is not there yet
 unfoldable pub initialised : (cells used : List ℕ) → (back : Bool) → (taken root h : ℕ) → Levels → (k : ℕ) → Levels
 initialised cs us b taken root h w k = cond (eqb taken 0) (dugDown cs us b h (pushed us b w (k + h) root) k) w

@@ -3,36 +3,35 @@ use level::PLACES;
 use records::Version;
 ghost use mathlib.Core.Path.{_≡_};
 ghost use mathlib.Core.Bool.{Bool, true, false};
-ghost use Prim.Native.Nat.{suc, _+_, _<_, _≤_};
+ghost use mathlib.Core.List.{List};
+ghost use Prim.Native.Nat.{ℕ, suc, _+_, _<_, _≤_};
+ghost use lib.Dec.{ltb};
 ghost use Rattle.meaning.specs.Shape.{height};
 ghost use Rattle.level.specs.Level.{places, levels};
-ghost use Rattle.levels.specs.Levels.{out, advancedBy, dugDown, initialised, took, oneTaken, HasStack};
+ghost use Rattle.levels.specs.Levels.{out, advancedBy, renewedDown, dugDown, poppedDown, initialised, took, oneTaken, HasStack};
 
-// One step of the m levels from k. A level that has finished gives way to the step of those above it, and begins anew below them; where all have finished, all are popped. Answers whether any is left.
-fn advance(
-    cells: &[u32],
+// Steps the m levels from k, up to the first that has not finished, and answers how many have. What is left to do goes from there down.
+fn step_up(
     used: &[u8],
-    nodes: &mut [u32; PLACES],
+    nodes: &[u32; PLACES],
     indices: &mut [i32; PLACES],
     back: bool,
     k: usize,
     m: usize,
-) -> bool
+) -> usize
     requires { ⌜ k + m ≤ places ⌝ }
-    ensures { λ r. ⌜ out (levels (now (nodes .exit)) (now (indices .exit))) r ≡ advancedBy (now (cells .entry)) (now (used .entry)) back m (levels (now (nodes .entry)) (now (indices .entry))) k ⌝ }
+    ensures { λ r. ⌜ (r ≤ m) × ((cells : List ℕ) → renewedDown cells (now (used .entry)) back r (out (levels (now (nodes .entry)) (now (indices .exit))) (ltb r m)) k
+        ≡ advancedBy cells (now (used .entry)) back m (levels (now (nodes .entry)) (now (indices .entry))) k) ⌝ }
 {
-    if m == 0 {
-        return false;
-    }
-    if level::step(used, nodes, indices, back, k) {
-        if advance(cells, used, nodes, indices, back, k + 1, m - 1) {
-            level::dig(cells, used, nodes, indices, back, k);
-            return true;
+    let mut n = 0;
+    while n < m {
+        if level::step(used, nodes, indices, back, k + n) {
+            n += 1;
+        } else {
+            return n;
         }
-        level::pop(nodes, indices, k);
-        return false;
     }
-    true
+    n
 }
 
 // Digs the h levels below place k + h.
@@ -53,6 +52,39 @@ fn dig_down(
         j -= 1;
         level::dig(cells, used, nodes, indices, back, k + j);
     }
+}
+
+fn pop_down(nodes: &mut [u32; PLACES], indices: &mut [i32; PLACES], k: usize, h: usize)
+    requires { ⌜ k + h ≤ places ⌝ }
+    ensures { λ _. ⌜ levels (now (nodes .exit)) (now (indices .exit)) ≡ poppedDown h (levels (now (nodes .entry)) (now (indices .entry))) k ⌝ }
+{
+    let mut j = h;
+    while j > 0 {
+        j -= 1;
+        level::pop(nodes, indices, k + j);
+    }
+}
+
+// One step of the m levels from k. A level that has finished gives way to the step of those above it, and begins anew below them; where all have finished, all are popped. Answers whether any is left.
+fn advance(
+    cells: &[u32],
+    used: &[u8],
+    nodes: &mut [u32; PLACES],
+    indices: &mut [i32; PLACES],
+    back: bool,
+    k: usize,
+    m: usize,
+) -> bool
+    requires { ⌜ k + m ≤ places ⌝ }
+    ensures { λ r. ⌜ out (levels (now (nodes .exit)) (now (indices .exit))) r ≡ advancedBy (now (cells .entry)) (now (used .entry)) back m (levels (now (nodes .entry)) (now (indices .entry))) k ⌝ }
+{
+    let n = step_up(used, nodes, indices, back, k, m);
+    if n < m {
+        dig_down(cells, used, nodes, indices, back, k, n);
+        return true;
+    }
+    pop_down(nodes, indices, k, n);
+    false
 }
 
 // Creates the stack from k at its first use.
