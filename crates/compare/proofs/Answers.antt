@@ -1,7 +1,7 @@
 -- What each return of the code answers, from what it found at place i of the two contents.
-use mathlib.Core.Path.{_≡_, sym, ap, ap₂, _∙_}
+use mathlib.Core.Path.{_≡_, refl, sym, ap, ap₂, _∙_}
 use mathlib.Core.List.{List, []}
-use Prim.Native.Nat.{ℕ, _+_, _≤_, _<_, min}
+use Prim.Native.Nat.{ℕ, zero, suc, _+_, _≤_, _<_, min}
 use native.Mathlib.Numerals.{add-one}
 use native.Mathlib.Omega.{arith}
 use lib.ListN.{length, getD, drop}
@@ -12,6 +12,7 @@ use Rattle.records.specs.declared.Version.{Version}
 use Rattle.lookup.specs.Lookup.{elementIn}
 use Rattle.lookup.proofs.Found.{contents-at, contents-length}
 use Rattle.compare.specs.Compare.{orderingOf, byLength, contentsIn, ordering}
+use Rattle.compare.specs.Differences.{FirstDifference, AlikeUntil}
 use Rattle.compare.specs.declared.Ordering.the-variants.{Less, Greater}
 use Rattle.compare.proofs.Turns.{order-less, order-greater, order-goes-on, order-ends}
 
@@ -39,6 +40,22 @@ module _ (cells : List ℕ) (a b : Version) (i x y : ℕ) (ha : i < a .length) (
   pub goes-on : y ≤ x → x ≤ y → SameFrom cells a b (i + 1)
   goes-on l m =
       rw add-one (sym (order-goes-on (contentsIn cells a) (contentsIn cells b) i (rw size-of ha) (rw size-of hb) (omega arith) (omega arith)) ∙ inv)
+
+-- trees of one form are alike until they differ
+pub alike-found : (cells : List ℕ) (a b : Version) (h k n r : ℕ) → a .bits ≡ b .bits → h ≡ k → FirstDifference cells (a .bits) h (a .root) (b .root) 0 n r
+    → (r ≤ n) × AlikeUntil cells a b h k r
+alike-found cells a b h k n r e f d = (d .most, λ j l. d .same j (omega arith) l ∙ ap₂ (λ q g. elementIn cells q g (b .root) j) e f)
+
+-- the order is not decided by what is alike
+pub alike-goes-on : (cells : List ℕ) (a b : Version) (h k r : ℕ) → h ≡ heightOf (recordOf a) → k ≡ heightOf (recordOf b) → r ≤ a .length → r ≤ b .length
+    → AlikeUntil cells a b h k r → SameFrom cells a b r
+alike-goes-on cells a b h k zero ea eb la lb s = refl
+alike-goes-on cells a b h k (suc r) ea eb la lb s =
+    let same = s r (omega arith) in
+    let x = item-at cells a h r _ ea la refl in
+    let y = item-at cells b k r _ eb lb refl in
+    let before = alike-goes-on cells a b h k r ea eb (omega arith) (omega arith) (λ j l. s j (omega arith)) in
+    rw add-one at (goes-on cells a b r _ _ la lb x y before (omega (arith, same)) (omega (arith, same)))
 
 pub answers-by-length : (cells : List ℕ) (a b : Version) (i : ℕ) → i ≡ min (a .length) (b .length) → SameFrom cells a b i → byLength (a .length) (b .length) ≡ ordering cells a b
 unfolding ordering

@@ -1,2 +1,4 @@
 pub mod Turns
 pub mod Answers
+pub mod Spans
+pub mod Ranges

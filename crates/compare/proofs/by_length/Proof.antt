@@ -4,15 +4,12 @@ use Rattle.compare.proofs.by_length.Tie as tie
 use Rattle.compare.proofs.by_length.Reads as reads
 use Rattle.compare.proofs.by_length.Lts as lts
 
--- src/lib.rt:51:9
 returns : tie.Need-returns
 returns c = length-less _ _ (c .if1 .taken)
 
--- src/lib.rt:54:9
 returns-2 : tie.Need-returns-2
 returns-2 c = length-greater _ _ (c .if2 .taken)
 
--- src/lib.rt:47:1
 returns-3 : tie.Need-returns-3
 returns-3 c = length-equal _ _ (c .before .if1 .left) (c .if2 .left)
 
