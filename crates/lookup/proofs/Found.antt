@@ -1,5 +1,6 @@
 -- What the descent finds is the element; and the element is what the contents have there.
 use mathlib.Core.Path.{_≡_, refl, sym, ap, _∙_}
+use mathlib.Core.Logic.{_≢_}
 use mathlib.Core.List.{List}
 use Prim.Native.Nat.{ℕ, zero, suc, _+_, _-_, _*_, _/_, _%_, _^_, _≤_, _<_}
 use native.Mathlib.Nat.{lt-irrefl, add-comm, suc-mul, div-div-eq-div-mul}
@@ -40,7 +41,25 @@ module _ (cells : List ℕ) (bits index : ℕ) where
   pub element-found : (h n m b r : ℕ) → m ≡ leafIn cells bits h n index → b ≡ bucket bits 0 index → r ≡ getD cells (nodeCells * m + b) 0 → r ≡ elementIn cells bits h n index
   element-found h n m b r e f g = g ∙ rw (f, e) (element-there h n)
 
--- all indices of one block have one leaf
+-- the shift falls with the height
+pub shift-below : (bits h w : ℕ) → h * bits < w → (h - 1) * bits < w
+shift-below bits zero w l = l
+shift-below bits (suc h) w l = let s : suc h - 1 ≡ h = omega arith in rw s (omega arith)
+
+-- ---- an element by its height
+
+pub leaf-found : (cells : List ℕ) (bits h n i b r : ℕ) → h ≡ 0 → b ≡ bucket bits h i → r ≡ getD cells (nodeCells * n + b) 0 → r ≡ elementIn cells bits h n i
+unfolding element
+leaf-found cells bits h n i b r e f g = rw (g, f, e)
+
+pub branch-found : (cells : List ℕ) (bits h n i b c r : ℕ) → h ≢ 0 → b ≡ bucket bits h i → c ≡ getD cells (nodeCells * n + b) 0
+    → r ≡ elementIn cells bits (h - 1) c i → r ≡ elementIn cells bits h n i
+unfolding element
+branch-found cells bits zero n i b c r f e g k = absurd (f refl)
+branch-found cells bits (suc h) n i b c r f e g k = let s : suc h - 1 ≡ h = omega arith in rw (k, s, g, e)
+
+-- ---- one leaf for all indices of a block
+
 bucket-same : (b k i j : ℕ) → i / 2 ^ b ≡ j / 2 ^ b → bucket b (suc k) i ≡ bucket b (suc k) j
 unfolding bucket
 bucket-same b k i j e =
@@ -52,11 +71,6 @@ unfolding leafIn
 leaf-same cells bits zero n i j e = refl
 leaf-same cells bits (suc h) n i j e =
     ap (λ (b : ℕ). leafIn cells bits h (getD cells (nodeCells * n + b) 0) i) (bucket-same bits h i j e) ∙ leaf-same cells bits h _ i j e
-
--- the shift falls with the height
-pub shift-below : (bits h w : ℕ) → h * bits < w → (h - 1) * bits < w
-shift-below bits zero w l = l
-shift-below bits (suc h) w l = let s : suc h - 1 ≡ h = omega arith in rw s (omega arith)
 
 -- ---- the answer
 

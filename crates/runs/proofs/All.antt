@@ -14,7 +14,8 @@ use Rattle.frames.specs.Run.{Run}
 use Rattle.frames.specs.Serve.{serve}
 use Rattle.serving.specs.Served.{serveAll}
 use Rattle.serving.specs.Lending.{framesIn}
-use Rattle.runs.specs.Runs.{progress, frameIn, step, runFrom}
+use Rattle.repeats.specs.InARow.{frameIn}
+use Rattle.runs.specs.Runs.{progress, step, runFrom}
 
 -- bytes put right behind what is done
 put-behind : (done rest bytes : List ℕ) (at : ℕ) → length done ≡ at → put (done ++ rest) at bytes ≡ (done ++ bytes) ++ drop (length bytes) rest

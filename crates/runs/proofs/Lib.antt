@@ -1,2 +1,4 @@
 pub mod Stepping
+pub mod Repeating
+pub mod Repeated
 pub mod All

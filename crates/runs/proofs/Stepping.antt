@@ -30,7 +30,8 @@ use Rattle.answering.specs.Turned.{oldIn, turned}
 use Rattle.answering.proofs.Ready.{turn-able}
 use Rattle.answering.proofs.Calling.{place-here}
 use Rattle.answering.proofs.Answering.{turn-serves}
-use Rattle.runs.specs.Runs.{Placed, sourceFrom, targetFrom, runOf, Progress, progress, frameIn, step, runFrom, Going}
+use Rattle.repeats.specs.InARow.{frameIn}
+use Rattle.runs.specs.Runs.{Placed, sourceFrom, targetFrom, runOf, Progress, progress, step, runFrom, Going}
 
 -- ---- the table
 
@@ -39,6 +40,9 @@ zeros = record { live = 0; root = 0; bits = 0; length = 0 }
 
 record-at : (table : List Version) (i : ℕ) → recordOf (getD table i zeros) ≡ getD (recordsOf table) i emptyRecord
 record-at table i = sym (List·getD-map recordOf table i zeros)
+
+pub record-there : (table : List Version) (i j : ℕ) → i ≡ j → recordOf (getD table i zeros) ≡ getD (recordsOf table) j emptyRecord
+record-there table i j e = record-at table i ∙ ap (λ (n : ℕ). getD (recordsOf table) n emptyRecord) e
 
 records-set : (table : List Version) (i : ℕ) (v : Version) → recordsOf (set table i v) ≡ set (recordsOf table) i (recordOf v)
 records-set [] i v = refl
@@ -104,7 +108,7 @@ module _ (s : Store) (table : List Version) (ws : WalkSlices) (f : Frame) (sourc
   target-read = read-at now table (taker f) (f .destination) target refl (at .targetIs)
 
   old-read : recordOf (getD table changed zeros) ≡ oldIn now f
-  old-read = record-at table changed ∙ ap (λ (j : ℕ). getD (recordsOf table) j emptyRecord) (at .changedIs)
+  old-read = record-there table changed _ (at .changedIs)
 
   pub can-turn : Runs now → Turnable s ws f (sourceFrom f (recordOf (getD table source zeros))) (targetFrom f (recordOf (getD table target zeros)))
   can-turn k = rw (source-read, target-read) (turn-able now f k)
@@ -130,13 +134,13 @@ module _ (s : Store) (table : List Version) (ws : WalkSlices) (f : Frame) (sourc
 
 -- ---- the loop
 
+pub step-runs : (requests : List ℕ) (p : Progress) (k : ℕ) → Runs (p .run) → Runs (step requests p k .run)
+unfolding step
+step-runs requests p k runs = frame-serves (p .run) (frameIn requests k) runs .runs
+
 module _ (requests : List ℕ) (count : ℕ) (start : Progress) where
   pub begins : Runs (start .run) → Going requests count start start 0
   begins k = let all : count - 0 ≡ count = omega arith in record { far = omega arith; runs = k; size = refl; fits = refl; goes = rw all }
-
-  step-runs : (p : Progress) (k : ℕ) → Runs (p .run) → Runs (step requests p k .run)
-  unfolding step
-  step-runs p k runs = frame-serves (p .run) (frameIn requests k) runs .runs
 
   run-step : (p : Progress) (k : ℕ) → k < count → runFrom requests (count - k) p k ≡ runFrom requests (count - (k + 1)) (step requests p k) (k + 1)
   unfolding runFrom
@@ -146,7 +150,7 @@ module _ (requests : List ℕ) (count : ℕ) (start : Progress) where
       → length (q .room) ≡ length (p .room) → Going requests count start q (k + 1)
   goes-on p q k g l e n m = record {
     far = omega arith;
-    runs = rw e (step-runs p k (g .runs));
+    runs = rw e (step-runs requests p k (g .runs));
     size = n ∙ g .size;
     fits = m ∙ g .fits;
     goes = ap (λ (x : Progress). runFrom requests (count - (k + 1)) x (k + 1)) e ∙ (sym (run-step p k l) ∙ g .goes);

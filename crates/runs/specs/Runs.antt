@@ -1,19 +1,24 @@
 -- Frames in order: what each makes of the state, and its answer at its 6 bytes.
 use mathlib.Core.Path.{_≡_}
-use mathlib.Core.Bool.{cond, _&&_}
+use mathlib.Core.Bool.{true, cond, _&&_}
+use mathlib.Core.Logic.{_⊎_}
 use mathlib.Core.List.{List}
 use Prim.Native.Nat.{ℕ, zero, suc, _+_, _-_, _*_, _≤_, _<_}
 use lib.Dec.{ltb}
-use lib.ListN.{length, take, drop}
+use lib.ListN.{length, getD}
 use Rattle.meaning.specs.Limits.{parties, partySlots, frameSize, answerSize}
 use Rattle.meaning.specs.Lent.{VersionRecord, emptyRecord, WalkSlices}
-use Rattle.meaning.specs.Frames.{Frame, decode, encode}
+use Rattle.meaning.specs.Frames.{Frame, encode}
 use Rattle.meaning.specs.Operations.{giver, taker}
+use Rattle.shape.specs.Legal.{Legal}
 use Rattle.store.specs.Store.{Store, nodeCount}
+use Rattle.walk.specs.Walk.{Walkable}
 use Rattle.requests.specs.Requests.{put}
-use Rattle.frames.specs.Run.{Run}
+use Rattle.requests.specs.Numbers.{GET, NEXT, NEXT-BACK}
+use Rattle.frames.specs.Run.{Run, walkPlace}
 use Rattle.frames.specs.Serve as frames
-use Rattle.turns.specs.Turns.{slots, placeOf}
+use Rattle.turns.specs.Turns.{slots, placeOf, isOpenAt}
+use Rattle.repeats.specs.InARow.{frameIn, Roomy}
 use Rattle.serving.specs.States.{Runs}
 use Rattle.answering.specs.Turned.{changedPlace}
 
@@ -46,10 +51,6 @@ pub record Progress : Type 0 where
 abbrev pub progress : Run → (room : List ℕ) → Progress
 progress r room = record { run = r; room = room }
 
--- frame k of the request bytes
-abbrev pub frameIn : (requests : List ℕ) → (k : ℕ) → Frame
-frameIn requests k = decode (take frameSize (drop (frameSize * k) requests))
-
 unfoldable pub step : (requests : List ℕ) → Progress → (k : ℕ) → Progress
 step requests p k =
     let x = frames.serve (p .run) (frameIn requests k) in
@@ -64,6 +65,22 @@ pub record CanRun (r : Run) (requests room : List ℕ) (count : ℕ) : Type 0 wh
   pub runs : Runs r
   pub asked : frameSize * count ≤ length requests
   pub fits : answerSize * count ≤ length room
+
+-- ---- frames like the one before, in a row
+
+-- what answering them asks of the walks, of the version in that frame's slot and of the room
+pub record Repeatable (ws : WalkSlices) (f : Frame) (v : VersionRecord) (requests room : List ℕ) (k count : ℕ) : Type 0 where
+  pub roomy : Roomy requests room k count
+  pub legal : f .operation ≡ GET → ltb (f .party) parties && ltb (f .slot) partySlots ≡ true → v .live ≡ 1 → Legal (v .bits) (v .length)
+  pub walkable : (f .operation ≡ NEXT) ⊎ (f .operation ≡ NEXT-BACK) → isOpenAt (ws .numbers) (f .party) (f .slot) ≡ true → Walkable (ws .numbers) (walkPlace (f .party) (f .slot))
+
+-- any state that has these cells, used numbers and walks, and the version in that frame's slot, goes on so from the kth frame up to the endth
+pub record Repeats (cells used : List ℕ) (ws wsAfter : WalkSlices) (f : Frame) (v : VersionRecord) (requests room roomAfter : List ℕ) (k count end : ℕ) : Type 0 where
+  pub from : k ≤ end
+  pub to : end ≤ count
+  pub serves : (s : Store) (vs : List VersionRecord) → s .nodes .cells ≡ cells → s .nodes .used ≡ used
+      → getD vs (placeOf (giver f) (f .slot)) emptyRecord ≡ v
+      → progress (runOf s vs wsAfter) roomAfter ≡ runFrom requests (end - k) (progress (runOf s vs ws) room) k
 
 -- ---- between two frames
 

@@ -3,6 +3,7 @@ use level::PLACES;
 use records::Version;
 use requests::Answer;
 use requests::Frame;
+use requests::operations;
 use served::Served;
 use walk::ROOM;
 ghost use mathlib.Core.Path.{_≡_};
@@ -12,10 +13,13 @@ ghost use Rattle.walk.specs.Walk.{slices};
 ghost use Rattle.requests.specs.Requests.{frameOf};
 ghost use Rattle.served.specs.Acted.{actedOf};
 ghost use Rattle.calls.specs.Calls.{withWalks};
+ghost use Rattle.frames.specs.Run.{walkPlace};
 ghost use Rattle.turns.specs.Turns.{Turnable, turn};
-ghost use Rattle.runs.specs.Runs.{Placed, sourceFrom, targetFrom, runOf, progress, CanRun, runFrom};
+ghost use Rattle.runs.specs.Runs.{Placed, sourceFrom, targetFrom, runOf, progress, CanRun, runFrom, Repeatable, Repeats};
 
 const SLOTS: usize = 64;
+
+const PARTY_WALKS: u8 = 2;
 
 const FRAME_SIZE: usize = 12;
 
@@ -85,6 +89,61 @@ fn serve(
     )
 }
 
+// ---- frames like the one before
+
+fn walk_place(party: u8, walk: u8) -> u32
+    ensures { λ r. ⌜ r ≡ walkPlace party walk ⌝ }
+{
+    (PARTY_WALKS as u32) * (party as u32) + (walk as u32)
+}
+
+// Answers the frames from the kth on that get from the slot, or step the walk, of the frame before; how far, it says. The version is what stands in that slot.
+fn repeat(
+    cells: &[u32],
+    used: &[u8],
+    numbers: &mut [u32; ROOM],
+    nodes: &mut [u32; PLACES],
+    indices: &mut [i32; PLACES],
+    f: Frame,
+    v: Version,
+    requests: &[u8],
+    room: &mut [u8],
+    k: usize,
+    count: usize,
+) -> usize
+    requires { ⌜ Repeatable (slices (now numbers) (now nodes) (now indices)) (frameOf f) (recordOf v) (now requests) (now room) k count ⌝ }
+    ensures { λ r. ⌜ Repeats (now (cells .entry)) (now (used .entry)) (slices (now (numbers .entry)) (now (nodes .entry)) (now (indices .entry)))
+        (slices (now (numbers .exit)) (now (nodes .exit)) (now (indices .exit))) (frameOf f) (recordOf v)
+        (now (requests .entry)) (now (room .entry)) (now (room .exit)) k count r ⌝ }
+{
+    let there = turns::is_slot(f.party as u32, f.slot);
+    if (f.operation == operations::GET) & there & (v.live == 1) {
+        return repeats::gets(cells, f.party, f.slot, v, requests, room, k, count);
+    }
+    let open = turns::is_open(numbers, f.party as u32, f.slot);
+    if ((f.operation == operations::NEXT) | (f.operation == operations::NEXT_BACK)) & open {
+        let n = walk_place(f.party, f.slot);
+        return repeats::steps(
+            cells,
+            used,
+            numbers,
+            nodes,
+            indices,
+            f.party,
+            f.operation,
+            f.slot,
+            n,
+            requests,
+            room,
+            k,
+            count,
+        );
+    }
+    k
+}
+
+// ---- all frames
+
 // The version records and the number of free nodes afterwards.
 pub struct Ran {
     pub versions: [Version; SLOTS],
@@ -150,7 +209,20 @@ pub fn run(
             value: r.value,
         };
         requests::put_answer(room, ANSWER_SIZE * k, answer);
-        k += 1;
+        let there = table[source];
+        k = repeat(
+            cells,
+            used,
+            numbers,
+            nodes,
+            indices,
+            f,
+            there,
+            requests,
+            room,
+            k + 1,
+            count,
+        );
     }
     Ran {
         versions: table,
