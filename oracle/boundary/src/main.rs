@@ -4,23 +4,27 @@ mod author;
 mod bench;
 mod calls;
 mod differential;
+mod edited;
 mod exhaust;
 mod ffi;
 mod lent;
 mod pair;
 mod scenes;
 mod sequences;
+mod week;
 
 use std::env;
 use std::path::Path;
 use std::process::ExitCode;
 
 const FRAMES: usize = 2_000_000;
+const EDITS: usize = 200_000;
 const SEED: u64 = 1;
 
 const USAGE: &str = "usage: boundary exhaust
        boundary differential [--frames N] [--seed S]
        boundary sequences
+       boundary week [--edits N] [--seed S]
        boundary bench PLOT [--rounds N] [--row NAME]";
 
 fn main() -> ExitCode {
@@ -41,22 +45,30 @@ fn run(arguments: &[&str]) -> Option<bool> {
     match arguments {
         ["exhaust"] => Some(exhaust::exhaust()),
         ["sequences"] => Some(sequences::sequences()),
-        ["differential", options @ ..] => differential(options),
+        ["differential", options @ ..] => {
+            let (frames, seed) = amount_and_seed(options, "--frames", FRAMES)?;
+            Some(differential::differential(frames, seed))
+        }
+        ["week", options @ ..] => {
+            let (edits, seed) = amount_and_seed(options, "--edits", EDITS)?;
+            Some(week::week(edits, seed))
+        }
         ["bench", plot, options @ ..] => bench(plot, options),
         _ => None,
     }
 }
 
-fn differential(options: &[&str]) -> Option<bool> {
-    let (mut frames, mut seed) = (FRAMES, SEED);
+/// The number after an option of this name, and the seed.
+fn amount_and_seed(options: &[&str], name: &str, unless_told: usize) -> Option<(usize, u64)> {
+    let (mut amount, mut seed) = (unless_told, SEED);
     for option in options.chunks(2) {
         match option {
-            ["--frames", number] => frames = number.parse().ok()?,
             ["--seed", number] => seed = number.parse().ok()?,
+            [told, number] if *told == name => amount = number.parse().ok()?,
             _ => return None,
         }
     }
-    Some(differential::differential(frames, seed))
+    Some((amount, seed))
 }
 
 fn bench(plot: &str, options: &[&str]) -> Option<bool> {

@@ -43,8 +43,12 @@ pub struct Scene {
 }
 
 pub fn frame(operation: u8, slot: u8, destination: u8) -> Frame {
+    frame_of(PARTY, operation, slot, destination)
+}
+
+pub fn frame_of(party: u8, operation: u8, slot: u8, destination: u8) -> Frame {
     Frame {
-        party: PARTY,
+        party,
         operation,
         slot,
         destination,
@@ -77,7 +81,7 @@ pub fn element(index: u32) -> u32 {
 
 impl Scene {
     pub fn frames(&self) -> Vec<Frame> {
-        let mut frames = self.grown();
+        let mut frames = grown(PARTY, self.bits, self.length);
         let (length, last) = (self.length, self.length.saturating_sub(1));
         match self.beside {
             Beside::Nothing => {}
@@ -112,25 +116,26 @@ impl Scene {
         }
         frames
     }
+}
 
-    /// Pushed to from slot to slot, so that it ends in its own.
-    fn grown(&self) -> Vec<Frame> {
-        let (mut from, mut to) = match self.length % 2 {
-            0 => (LIST, OTHER),
-            _ => (OTHER, LIST),
-        };
-        let mut frames = vec![Frame {
-            index: self.bits,
-            ..frame(NEW, 0, from)
-        }];
-        for number in 0..self.length {
-            frames.push(Frame {
-                value: element(number),
-                ..frame(PUSH_BACK, from, to)
-            });
-            frames.push(frame(RELEASE, from, 0));
-            (from, to) = (to, from);
-        }
-        frames
+/// A list of a party pushed to from slot to slot, so that it ends in the first; each source is released.
+pub fn grown(party: u8, bits: u32, length: u32) -> Vec<Frame> {
+    let own = |operation, slot, destination| frame_of(party, operation, slot, destination);
+    let (mut from, mut to) = match length % 2 {
+        0 => (LIST, OTHER),
+        _ => (OTHER, LIST),
+    };
+    let mut frames = vec![Frame {
+        index: bits,
+        ..own(NEW, 0, from)
+    }];
+    for number in 0..length {
+        frames.push(Frame {
+            value: element(number),
+            ..own(PUSH_BACK, from, to)
+        });
+        frames.push(own(RELEASE, from, 0));
+        (from, to) = (to, from);
     }
+    frames
 }
