@@ -1,5 +1,6 @@
 //! Holds the static library of the crate `host`, by its C functions, against the model made of the original's vectors.
 
+mod around;
 mod author;
 mod bench;
 mod calls;
@@ -7,6 +8,7 @@ mod differential;
 mod edited;
 mod exhaust;
 mod ffi;
+mod lengths;
 mod lent;
 mod pair;
 mod scenes;
@@ -19,11 +21,13 @@ use std::process::ExitCode;
 
 const FRAMES: usize = 2_000_000;
 const EDITS: usize = 200_000;
+const ROUNDS: usize = 2;
 const SEED: u64 = 1;
 
 const USAGE: &str = "usage: boundary exhaust
        boundary differential [--frames N] [--seed S]
        boundary sequences
+       boundary lengths [--rounds N] [--seed S]
        boundary week [--edits N] [--seed S]
        boundary bench PLOT [--rounds N] [--row NAME]";
 
@@ -48,6 +52,10 @@ fn run(arguments: &[&str]) -> Option<bool> {
         ["differential", options @ ..] => {
             let (frames, seed) = amount_and_seed(options, "--frames", FRAMES)?;
             Some(differential::differential(frames, seed))
+        }
+        ["lengths", options @ ..] => {
+            let (rounds, seed) = amount_and_seed(options, "--rounds", ROUNDS)?;
+            Some(lengths::lengths(rounds, seed))
         }
         ["week", options @ ..] => {
             let (edits, seed) = amount_and_seed(options, "--edits", EDITS)?;
