@@ -4,18 +4,23 @@ BOUNDARY = JUMPERLOFT_HOST_LIBRARY='$(abspath $(BUILT_LIBRARY))' cargo run --qui
 BOUNDARY_SKIPPED = if ! command -v cargo >/dev/null 2>&1; then echo '$@: SKIPPED, there is no cargo on this machine'; \
 	elif ! [ -f "$$JUMPERLOFT_ORIGINAL" ]; then echo "$@: SKIPPED, the original's text is not at $$JUMPERLOFT_ORIGINAL"
 
-.PHONY: boundary soak-boundary soak-lengths soak-week bench
+.PHONY: boundary soak-boundary soak-sequences soak-lengths soak-week bench
 
 # the pool exhausted at each call, random sessions, every short sequence, lists of every noted length, walks kept open through many edits
 boundary: host-library
 	@$(BOUNDARY_SKIPPED); \
-	else cd oracle && $(BOUNDARY) exhaust && $(BOUNDARY) differential --frames 2000000 --seed 1 && $(BOUNDARY) sequences && \
+	else cd oracle && $(BOUNDARY) exhaust && $(BOUNDARY) differential --frames 2000000 --seed 1 && $(BOUNDARY) sequences --calls 5 && \
 	$(BOUNDARY) lengths --rounds 2 --seed 1 && $(BOUNDARY) week --edits 200000 --seed 1; fi
 
 # random sessions at length: ten million frames
 soak-boundary: host-library
 	@$(BOUNDARY_SKIPPED); \
 	else cd oracle && $(BOUNDARY) differential --frames 10000000 --seed 2; fi
+
+# every sequence of six calls
+soak-sequences: host-library
+	@$(BOUNDARY_SKIPPED); \
+	else cd oracle && $(BOUNDARY) sequences --calls 6; fi
 
 # lists of every length where the shape changes
 soak-lengths: host-library

@@ -19,6 +19,7 @@ use std::env;
 use std::path::Path;
 use std::process::ExitCode;
 
+const CALLS: usize = 5;
 const FRAMES: usize = 2_000_000;
 const EDITS: usize = 200_000;
 const ROUNDS: usize = 2;
@@ -26,7 +27,7 @@ const SEED: u64 = 1;
 
 const USAGE: &str = "usage: boundary exhaust
        boundary differential [--frames N] [--seed S]
-       boundary sequences
+       boundary sequences [--calls N]
        boundary lengths [--rounds N] [--seed S]
        boundary week [--edits N] [--seed S]
        boundary bench PLOT [--rounds N] [--row NAME]";
@@ -48,7 +49,11 @@ fn main() -> ExitCode {
 fn run(arguments: &[&str]) -> Option<bool> {
     match arguments {
         ["exhaust"] => Some(exhaust::exhaust()),
-        ["sequences"] => Some(sequences::sequences()),
+        ["sequences"] => Some(sequences::sequences(CALLS)),
+        ["sequences", "--calls", number] => {
+            let calls = number.parse().ok().filter(|calls| *calls > 0)?;
+            Some(sequences::sequences(calls))
+        }
         ["differential", options @ ..] => {
             let (frames, seed) = amount_and_seed(options, "--frames", FRAMES)?;
             Some(differential::differential(frames, seed))

@@ -17,8 +17,8 @@ struct Beginning {
     steps: usize,
 }
 
-/// Nothing, or a list of bits 1 and three elements, one taken by an open walk.
-fn beginnings() -> [Beginning; 2] {
+/// Nothing, or a list of bits 1 and three elements, one taken by an open walk, from where there is more to do and sequences are shorter by one.
+fn beginnings(calls: usize) -> [Beginning; 2] {
     let grown = vec![
         new(),
         push(0, 1),
@@ -33,13 +33,13 @@ fn beginnings() -> [Beginning; 2] {
     [
         Beginning {
             frames: Vec::new(),
-            whole: 5,
-            steps: 8,
+            whole: calls,
+            steps: calls + 3,
         },
         Beginning {
             frames: grown,
-            whole: 4,
-            steps: 6,
+            whole: calls - 1,
+            steps: calls + 1,
         },
     ]
 }
@@ -89,8 +89,9 @@ fn alphabet() -> Vec<Frame> {
     ]
 }
 
-pub fn sequences() -> bool {
-    for beginning in beginnings() {
+/// For at least one call.
+pub fn sequences(calls: usize) -> bool {
+    for beginning in beginnings(calls) {
         let mut tree = Tree {
             alphabet: alphabet(),
             sequence: Vec::new(),
