@@ -15,7 +15,10 @@ FRAMES ?= crates/jumperloft/stdin
 HOST_LIBRARY ?=
 BUILT_LIBRARY = $(or $(HOST_LIBRARY),target/staticlib/libhost.a)
 
-.PHONY: run test built format kinds oracle drive program soak bench-audit bench-program record
+# what the long runs are made from; each prints it, and the same seed gives the same run
+SOAK_SEED ?= 2
+
+.PHONY: run test built format kinds oracle drive program soak soak-audit bench-audit bench-program record
 
 # prints the program's output alone
 run:
@@ -57,10 +60,13 @@ program:
 	elif ! [ -f "$$JUMPERLOFT_ORIGINAL" ]; then echo "program: SKIPPED beyond the recorded sessions, the original's text is not at $$JUMPERLOFT_ORIGINAL"; \
 	else cd oracle && $(SESSION) program ../$(PROGRAM); fi
 
-# the audit at length: two million damaged states
-soak:
+# everything at length
+soak: soak-audit soak-boundary soak-sequences soak-lengths soak-week
+
+# two million damaged states
+soak-audit:
 	@mkdir -p target; rt staticlib trial >target/staticlib.log 2>&1 || { tail -20 target/staticlib.log; exit 1; }
-	@cd oracle && $(DRIVE) audit --states 2000000 --seed 2
+	@cd oracle && $(DRIVE) audit --states 2000000 --seed $(SOAK_SEED)
 
 # the figures of docs/SPEED.md
 bench-audit:

@@ -15,7 +15,7 @@ boundary: host-library
 # random sessions at length: ten million frames
 soak-boundary: host-library
 	@$(BOUNDARY_SKIPPED); \
-	else cd oracle && $(BOUNDARY) differential --frames 10000000 --seed 2; fi
+	else cd oracle && $(BOUNDARY) differential --frames 10000000 --seed $(SOAK_SEED); fi
 
 # every sequence of six calls
 soak-sequences: host-library
@@ -25,12 +25,12 @@ soak-sequences: host-library
 # lists of every length where the shape changes
 soak-lengths: host-library
 	@$(BOUNDARY_SKIPPED); \
-	else cd oracle && $(BOUNDARY) lengths --rounds 40 --seed 2; fi
+	else cd oracle && $(BOUNDARY) lengths --rounds 40 --seed $(SOAK_SEED); fi
 
 # walks kept open through a hundred million edits of their lists
 soak-week: host-library
 	@$(BOUNDARY_SKIPPED); \
-	else cd oracle && $(BOUNDARY) week --edits 100000000 --seed 2; fi
+	else cd oracle && $(BOUNDARY) week --edits 100000000 --seed $(SOAK_SEED); fi
 
 # docs/SPEED.md's figures beside the original, printed as a table, and their plot
 bench: host-library

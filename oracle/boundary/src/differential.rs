@@ -44,6 +44,7 @@ struct Count {
 }
 
 pub fn differential(frames: usize, seed: u64) -> bool {
+    println!("differential: seed {seed}, {frames} frames");
     let mut rng = Rng::new(seed);
     let mut count = Count::default();
     while count.frames < frames {
@@ -61,8 +62,12 @@ pub fn differential(frames: usize, seed: u64) -> bool {
         }
         count.sessions += 1;
     }
-    count.print(seed);
-    frames < FRAMES_WITH_FULL_LISTS || count.has_everything()
+    count.print();
+    let everything = frames < FRAMES_WITH_FULL_LISTS || count.has_everything();
+    if !everything {
+        println!("differential: an operation is never done, or a number never answered");
+    }
+    everything
 }
 
 /// Small ones that fill up, middle ones and the largest take turns.
@@ -193,8 +198,8 @@ impl Session {
         let Disagreement { frame, told } = disagreement;
         let frame = frame.map_or(String::new(), |frame| format!(", frame {frame}"));
         let (nodes, batch) = (self.nodes, self.batch);
-        println!("differential: seed {seed}, {nodes} nodes, batch {batch}{frame}: {told}");
-        println!("differential: again by --frames {frames} --seed {seed}");
+        println!("differential: {nodes} nodes, batch {batch}{frame}: {told}");
+        println!("differential: again by boundary differential --frames {frames} --seed {seed}");
     }
 }
 
@@ -215,7 +220,7 @@ impl Count {
             .all(|times| *times > 0)
     }
 
-    fn print(&self, seed: u64) {
+    fn print(&self) {
         let Count {
             sessions,
             batches,
@@ -226,7 +231,7 @@ impl Count {
             numbers,
             fullest,
         } = self;
-        println!("differential: seed {seed}, {frames} frames in {batches} batches of {sessions} sessions agree, contents read {read} times, {refused_batches} batches refused whole, up to {fullest} nodes in use");
+        println!("differential: {frames} frames in {batches} batches of {sessions} sessions agree, contents read {read} times, {refused_batches} batches refused whole, up to {fullest} nodes in use");
         println!("differential: done of each operation from 00 to 10: {done:?}");
         println!("differential: numbers from 0 to 10: {numbers:?}");
     }

@@ -44,6 +44,7 @@ pub struct Campaign {
 
 /// Prints what was judged and answers whether the audits agreed on all of it.
 pub fn campaign(states: usize, seed: u64) -> bool {
+    println!("audit: seed {seed}, {states} states");
     let mut campaign = Campaign {
         rng: Rng::new(seed),
         bases: 0,
@@ -57,12 +58,16 @@ pub fn campaign(states: usize, seed: u64) -> bool {
     while campaign.total.judged < states {
         campaign.base();
     }
-    campaign.print(seed);
-    campaign.wrong.is_empty()
+    campaign.print();
+    let agrees = campaign.wrong.is_empty();
+    if !agrees {
+        println!("audit: again by drive audit --states {states} --seed {seed}");
+    }
+    agrees
 }
 
 impl Campaign {
-    fn print(&self, seed: u64) {
+    fn print(&self) {
         for what in self.wrong.iter().take(WRONG_SHOWN) {
             println!("audit: {what}");
         }
@@ -78,7 +83,7 @@ impl Campaign {
         );
         let (judged, kept) = (self.total.judged, self.total.well_formed);
         let (bases, kinds, wrong) = (self.bases, self.kinds.len(), self.wrong.len());
-        println!("audit: seed {seed}: {judged} states judged, made of {bases} well-formed ones, {kinds} kinds of damage, {kept} stayed well-formed, {wrong} disagreements");
+        println!("audit: {judged} states judged, made of {bases} well-formed ones, {kinds} kinds of damage, {kept} stayed well-formed, {wrong} disagreements");
     }
 
     /// Judges a state; `same` is equal to it, and must be so afterwards.
