@@ -51,6 +51,8 @@ c-tests: c-prefix
 	@$(CC) -std=c11 $(C_CHECKED) tests/c/header.c $(C_LINKED) -o $(C_OUT)/header_c && $(C_OUT)/header_c
 	@$(CXX) -x c++ -std=c++17 $(C_CHECKED) tests/c/header.c -x none $(C_LINKED) -o $(C_OUT)/header_cxx && $(C_OUT)/header_cxx
 	@$(CC) $(C_FLAGS) tests/c/stack.c $(C_LINKED) -pthread -o $(C_OUT)/stack && $(C_OUT)/stack
+	@$(CC) $(C_FLAGS) tests/c/replay.c $(C_LINKED) -o $(C_OUT)/replay && for lines in oracle/recorded/session-*.lines; do \
+	$(C_OUT)/replay $$lines $${lines%.lines}.answers || exit 1; done
 	@mkdir -p $(C_OUT)/objects && for file in $(MISUSE); do \
 	$(CC) $(C_FLAGS) -c $$file $$($(C_PKG) --cflags jumperloft) -o $(C_OUT)/objects/$$(basename $$file .c).o || exit 1; done
 	@$(CC) $(C_OUT)/objects/*.o $(C_LINKED) -o $(C_OUT)/misuse && $(C_OUT)/misuse 20000 $(C_SEED)
