@@ -4,7 +4,7 @@ BOUNDARY = JUMPERLOFT_HOST_LIBRARY='$(abspath $(BUILT_LIBRARY))' cargo run --qui
 BOUNDARY_SKIPPED = if ! command -v cargo >/dev/null 2>&1; then echo '$@: SKIPPED, there is no cargo on this machine'; \
 	elif ! [ -f "$$JUMPERLOFT_ORIGINAL" ]; then echo "$@: SKIPPED, the original's text is not at $$JUMPERLOFT_ORIGINAL"
 
-.PHONY: boundary soak-boundary soak-sequences soak-lengths soak-week bench
+.PHONY: boundary soak-boundary soak-sequences soak-lengths soak-week bench bench-instructions
 
 # the pool exhausted at each call, random sessions, every short sequence, lists of every noted length, walks kept open through many edits
 boundary: host-library
@@ -32,7 +32,19 @@ soak-week: host-library
 	@$(BOUNDARY_SKIPPED); \
 	else cd oracle && $(BOUNDARY) week --edits 100000000 --seed $(SOAK_SEED); fi
 
+# sets im_rc to the option that names im-rc's library, or says that there is none
+IM_RC_BUILT = mkdir -p target; im_rc=; \
+	if (cd oracle/im_rc && cargo build --quiet --release --offline --target-dir ../target/im_rc) >target/im_rc.log 2>&1; \
+	then im_rc='--im-rc target/im_rc/release/libim_rc_lists.so'; \
+	else echo "$@: no figures of im-rc, which is built from Debian's librust-im-rc-dev; target/im_rc.log says more"; fi
+
 # docs/SPEED.md's figures beside the original, printed as a table, and their plot
 bench: host-library
 	@$(BOUNDARY_SKIPPED); \
-	else cd oracle && $(BOUNDARY) bench ../docs/speed.svg; fi
+	else $(IM_RC_BUILT); cd oracle && $(BOUNDARY) bench ../docs/speed.svg $$im_rc; fi
+
+# the same rows in instructions
+bench-instructions: host-library
+	@$(BOUNDARY_SKIPPED); \
+	elif ! command -v valgrind >/dev/null 2>&1; then echo '$@: SKIPPED, there is no valgrind on this machine'; \
+	else $(IM_RC_BUILT); cd oracle && $(BOUNDARY) instructions $$im_rc; fi

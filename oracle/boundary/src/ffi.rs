@@ -1,4 +1,4 @@
-//! The exported calls of the crate `host`. Everything unsafe of this program stands here.
+//! The exported calls of the crate `host`. Nothing else of this program is unsafe but the loading of im-rc's library for the bench.
 
 use crate::lent::{Lent, Version};
 

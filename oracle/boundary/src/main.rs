@@ -30,7 +30,9 @@ const USAGE: &str = "usage: boundary exhaust
        boundary sequences [--calls N]
        boundary lengths [--rounds N] [--seed S]
        boundary week [--edits N] [--seed S]
-       boundary bench PLOT [--rounds N] [--row NAME]";
+       boundary bench PLOT [--rounds N] [--row NAME] [--im-rc LIBRARY]
+       boundary instructions [--row NAME] [--im-rc LIBRARY]
+       boundary count ROW SIDE [LIBRARY]";
 
 fn main() -> ExitCode {
     let arguments: Vec<String> = env::args().skip(1).collect();
@@ -66,7 +68,10 @@ fn run(arguments: &[&str]) -> Option<bool> {
             let (edits, seed) = amount_and_seed(options, "--edits", EDITS)?;
             Some(week::week(edits, seed))
         }
-        ["bench", plot, options @ ..] => bench(plot, options),
+        ["bench", plot, options @ ..] => Some(bench::bench(Path::new(plot), choice(options)?)),
+        ["instructions", options @ ..] => Some(bench::instructions(choice(options)?)),
+        ["count", row, side] => Some(bench::count(row, side, None)),
+        ["count", row, side, im_rc] => Some(bench::count(row, side, Some(im_rc))),
         _ => None,
     }
 }
@@ -84,17 +89,18 @@ fn amount_and_seed(options: &[&str], name: &str, unless_told: usize) -> Option<(
     Some((amount, seed))
 }
 
-fn bench(plot: &str, options: &[&str]) -> Option<bool> {
-    let (mut effort, mut name) = (bench::FULL, "");
+fn choice<'a>(options: &[&'a str]) -> Option<bench::Choice<'a>> {
+    let mut choice = bench::EVERY_ROW;
     for option in options.chunks(2) {
         match option {
             ["--rounds", number] => {
                 let rounds = number.parse().ok().filter(|rounds| *rounds > 0)?;
-                effort = bench::Effort::exactly(rounds);
+                choice.effort = bench::Effort::exactly(rounds);
             }
-            ["--row", text] => name = text,
+            ["--row", text] => choice.row = text,
+            ["--im-rc", path] => choice.im_rc = Some(path),
             _ => return None,
         }
     }
-    Some(bench::bench(Path::new(plot), effort, name))
+    Some(choice)
 }

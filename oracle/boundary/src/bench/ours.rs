@@ -1,5 +1,6 @@
 //! Our side: frames made beforehand, sent in batches, their answers read.
 
+use super::instructions::jumperloft_counted;
 use super::row::{Row, Work, POOL};
 use super::runner::{sum_in_order, Runner};
 use crate::ffi;
@@ -38,6 +39,16 @@ impl Ours {
             batches,
             room,
             answered: 0,
+        }
+    }
+
+    /// Counts what the audits of one run take: an empty batch before each batch.
+    pub fn audits(&mut self) {
+        for batch in &self.batches {
+            jumperloft_counted(&mut || {
+                send(&mut self.lent, &[], &mut self.room);
+            });
+            send(&mut self.lent, batch, &mut self.room);
         }
     }
 }

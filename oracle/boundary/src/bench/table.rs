@@ -10,31 +10,73 @@ const MICRO: f64 = 1e6;
 
 pub fn table(measured: &[Measured]) -> String {
     let mut text = String::from(
-        "| what | bits | frames a batch | repetitions | ours | the original | a flat array | ours / original |\n\
-         |---|---|---|---|---|---|---|---|\n",
+        "| what | bits | frames a batch | repetitions | ours | the original | im-rc | a flat array | ours / original |\n\
+         |---|---|---|---|---|---|---|---|---|\n",
     );
     for line in measured {
         let row = line.row;
         let cell = |times: Option<Times>| times.map_or(String::new(), |times| figures(row, times));
-        let bits = match row.work {
-            Work::Form => String::new(),
-            _ => row.bits.to_string(),
-        };
         let batch = match row.work {
             Work::Form => String::new(),
             _ => grouped(row.frames_a_batch() as f64),
         };
-        let ratio = line.ratio().map_or(String::new(), figure);
-        let (ours, original) = (figures(row, line.ours), cell(line.original));
-        let flat = cell(line.flat);
-        let (name, count) = (row.name(), grouped(line.ours.count as f64));
-        writeln!(
-            text,
-            "| {name} | {bits} | {batch} | {count} | {ours} | {original} | {flat} | {ratio} |"
-        )
-        .expect("a string can be written");
+        let cells = [
+            row.name().to_string(),
+            bits(row),
+            batch,
+            grouped(line.ours.count as f64),
+            figures(row, line.ours),
+            cell(line.original),
+            cell(line.im_rc),
+            cell(line.flat),
+            line.ratio().map_or(String::new(), figure),
+        ];
+        writeln!(text, "| {} |", cells.join(" | ")).expect("a string can be written");
     }
     text
+}
+
+/// Instructions of one run.
+pub struct Counted {
+    pub row: Row,
+    pub ours: f64,
+    pub audits: Option<f64>,
+    pub original: Option<f64>,
+    pub im_rc: Option<f64>,
+    pub flat: Option<f64>,
+}
+
+pub fn instructions_table(counted: &[Counted]) -> String {
+    let mut text = String::from(
+        "| what | bits | ours | of it the audit | the original | im-rc | a flat array | ours / original |\n\
+         |---|---|---|---|---|---|---|---|\n",
+    );
+    for line in counted {
+        let row = line.row;
+        let each = |run: f64| figure(run / f64::from(row.count()));
+        let cell = |run: Option<f64>| run.map_or(String::new(), each);
+        let ratio = line.original.map(|original| line.ours / original);
+        let cells = [
+            row.name().to_string(),
+            bits(row),
+            each(line.ours),
+            cell(line.audits),
+            cell(line.original),
+            cell(line.im_rc),
+            cell(line.flat),
+            ratio.map_or(String::new(), figure),
+        ];
+        writeln!(text, "| {} |", cells.join(" | ")).expect("a string can be written");
+    }
+    text
+}
+
+/// Forming knows none.
+fn bits(row: Row) -> String {
+    match row.work {
+        Work::Form => String::new(),
+        _ => row.bits.to_string(),
+    }
 }
 
 fn figures(row: Row, times: Times) -> String {
