@@ -6,10 +6,10 @@ BOUNDARY_SKIPPED = if ! command -v cargo >/dev/null 2>&1; then echo '$@: SKIPPED
 
 .PHONY: boundary soak-boundary soak-sequences soak-lengths soak-week bench bench-instructions
 
-# the pool exhausted at each call, random sessions, every short sequence, lists of every noted length, walks kept open through many edits
+# known differences, the pool exhausted at each call, random sessions, every short sequence, lists of every noted length, walks kept open through many edits
 boundary: host-library
 	@$(BOUNDARY_SKIPPED); \
-	else cd oracle && $(BOUNDARY) exhaust && $(BOUNDARY) differential --frames 2000000 --seed 1 && $(BOUNDARY) sequences --calls 5 && \
+	else cd oracle && $(BOUNDARY) differences && $(BOUNDARY) exhaust && $(BOUNDARY) differential --frames 2000000 --seed 1 && $(BOUNDARY) sequences --calls 5 && \
 	$(BOUNDARY) lengths --rounds 2 --seed 1 && $(BOUNDARY) week --edits 200000 --seed 1; fi
 
 # random sessions at length: ten million frames

@@ -4,6 +4,7 @@ mod around;
 mod author;
 mod bench;
 mod calls;
+mod differences;
 mod differential;
 mod edited;
 mod exhaust;
@@ -25,7 +26,8 @@ const EDITS: usize = 200_000;
 const ROUNDS: usize = 2;
 const SEED: u64 = 1;
 
-const USAGE: &str = "usage: boundary exhaust
+const USAGE: &str = "usage: boundary differences
+       boundary exhaust
        boundary differential [--frames N] [--seed S]
        boundary sequences [--calls N]
        boundary lengths [--rounds N] [--seed S]
@@ -50,6 +52,7 @@ fn main() -> ExitCode {
 /// Whether all agrees; nothing for an unknown command.
 fn run(arguments: &[&str]) -> Option<bool> {
     match arguments {
+        ["differences"] => Some(differences::differences()),
         ["exhaust"] => Some(exhaust::exhaust()),
         ["sequences"] => Some(sequences::sequences(CALLS)),
         ["sequences", "--calls", number] => {
