@@ -2,8 +2,8 @@
 
 use crate::author::Author;
 use crate::ffi::{self, Report};
-use crate::lent::SLICES;
 use crate::pair::{Disagreement, Pair, ANSWER_SIZE, FRAME_SIZE};
+use lent::SLICES;
 use session::frame::{Answer, Frame};
 use session::numbers::*;
 use session::rng::Rng;

@@ -1,10 +1,10 @@
 //! `boundary exhaust`: each call at each number of free nodes from 0 to its charge, in a pool that other versions fill.
 
 use crate::calls::{calls, Call};
-use crate::lent::Lent;
 use crate::pair::{Disagreement, Pair};
 use crate::scenes::{frame, Scene, ALL_BESIDE};
 use formulas::{degree, BITS};
+use lent::Lent;
 use session::frame::{Answer, Frame};
 use session::numbers::*;
 use session::state::State;

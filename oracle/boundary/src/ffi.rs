@@ -1,6 +1,6 @@
 //! The exported calls of the crate `host`. Nothing else of this program is unsafe but the loading of im-rc's library for the bench.
 
-use crate::lent::{Lent, Version};
+use lent::{Lent, Version, VERSION_NUMBERS};
 
 /// The number given back, and how many frames ran.
 #[repr(C)]
@@ -29,7 +29,7 @@ extern "C" {
 }
 
 pub fn form(s: &mut Lent) -> Report {
-    // SAFETY: nine distinct slices; the call requires nothing of their lengths and contents.
+    // SAFETY: nine distinct slices, the versions' numbers as records of four; the call requires nothing of their lengths and contents.
     unsafe {
         jumperloft1_form(
             s.kinds.as_mut_ptr(),
@@ -42,8 +42,8 @@ pub fn form(s: &mut Lent) -> Report {
             s.cells.len(),
             s.order.as_mut_ptr(),
             s.order.len(),
-            s.versions.as_mut_ptr(),
-            s.versions.len(),
+            s.versions.as_mut_ptr().cast(),
+            s.versions.len() / VERSION_NUMBERS,
             s.walk_numbers.as_mut_ptr(),
             s.walk_numbers.len(),
             s.walk_nodes.as_mut_ptr(),
@@ -55,7 +55,7 @@ pub fn form(s: &mut Lent) -> Report {
 }
 
 pub fn batch(s: &mut Lent, requests: &[u8], room: &mut [u8]) -> Report {
-    // SAFETY: eleven distinct slices; the call requires nothing of their lengths and contents.
+    // SAFETY: eleven distinct slices, the versions' numbers as records of four; the call requires nothing of their lengths and contents.
     unsafe {
         jumperloft1_batch(
             s.kinds.as_mut_ptr(),
@@ -68,8 +68,8 @@ pub fn batch(s: &mut Lent, requests: &[u8], room: &mut [u8]) -> Report {
             s.cells.len(),
             s.order.as_mut_ptr(),
             s.order.len(),
-            s.versions.as_mut_ptr(),
-            s.versions.len(),
+            s.versions.as_mut_ptr().cast(),
+            s.versions.len() / VERSION_NUMBERS,
             s.walk_numbers.as_mut_ptr(),
             s.walk_numbers.len(),
             s.walk_nodes.as_mut_ptr(),

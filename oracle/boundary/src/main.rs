@@ -10,7 +10,6 @@ mod edited;
 mod exhaust;
 mod ffi;
 mod lengths;
-mod lent;
 mod pair;
 mod scenes;
 mod sequences;

@@ -1,7 +1,7 @@
 //! A lent state behind the C boundary and the model beside it, served the same frames.
 
 use crate::ffi::{self, Report};
-use crate::lent::Lent;
+use lent::Lent;
 use original::vector::probe;
 use session::frame::{Answer, Frame};
 use session::numbers::{PARTIES, SLOTS, WALKS};
@@ -101,7 +101,7 @@ impl Pair {
     }
 
     fn hold_slot(&self, party: u8, slot: u8) -> Result<(), Disagreement> {
-        let version = &self.lent.versions[usize::from(SLOTS * party + slot)];
+        let version = self.lent.version(usize::from(SLOTS * party + slot));
         let place = Place::Slot {
             party: u32::from(party),
             slot,

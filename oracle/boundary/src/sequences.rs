@@ -1,8 +1,8 @@
 //! `boundary sequences`: every sequence of a few calls over a small alphabet, on 8 nodes.
 
-use crate::lent::Lent;
 use crate::pair::{formed, Disagreement, Pair};
 use crate::scenes::frame;
+use lent::Lent;
 use session::frame::{Answer, Frame};
 use session::numbers::*;
 use session::state::State;

@@ -2,12 +2,12 @@
 
 use crate::ffi;
 use crate::hostile::{cycles, scattered};
-use crate::lent::{Lent, SLOTS, WALKS};
 use crate::ours::Ours;
 use crate::plain_audit;
 use crate::state::State;
 use crate::subject::{element, fill};
 use formulas::LENGTH_LIMIT;
+use lent::{Lent, SLOTS, WALKS};
 use std::hint::black_box;
 use std::time::{Duration, Instant};
 

@@ -1,7 +1,7 @@
 //! Lists whose equal parts are one node: few nodes hold any length, also one beyond the limit.
 
-use crate::lent::{Lent, Version, NODE_CELLS};
 use formulas::{degree, height};
+use lent::{Lent, Version, NODE_CELLS};
 use std::collections::HashMap;
 
 const FREE_NODES: usize = 3;

@@ -2,12 +2,12 @@
 
 use crate::dag::shared_list;
 use crate::damages::Base;
-use crate::lent::{Lent, SLOTS, WALKS};
 use crate::random_calls;
 use crate::rng::Rng;
 use crate::state::State;
 use crate::verdict::judge;
 use formulas::{height, BITS, LENGTH_LIMIT};
+use lent::{Lent, SLOTS, WALKS};
 use std::collections::BTreeMap;
 
 /// Pools up to this size are damaged at every place in every way.

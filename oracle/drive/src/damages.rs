@@ -1,8 +1,8 @@
 //! The damages that `drive audit` does to a well-formed state.
 
 use crate::damage::Campaign;
-use crate::lent::{Lent, NODE_CELLS, SLOTS, VERSION_NUMBERS, WALKS, WALK_NUMBERS};
 use crate::places::{Area, AREAS, LEGAL, WAYS};
+use lent::{Lent, NODE_CELLS, SLOTS, VERSION_NUMBERS, WALKS, WALK_NUMBERS};
 
 const BRANCH: u8 = 2;
 

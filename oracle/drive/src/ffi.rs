@@ -4,7 +4,7 @@
 //! from a well-formed state with that many free nodes, a version or walk that is live in it, and a walk number below 16:
 //! `state.rs`, their only caller, begins with a fresh state, changes it by these calls alone and never lends it to be written.
 
-use crate::lent::{Lent, Version};
+use lent::{Lent, Version};
 
 /// What a call answers; what it doesn't name is 0.
 #[repr(C)]

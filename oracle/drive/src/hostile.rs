@@ -1,8 +1,8 @@
 //! Well-formed states made by hand to be slow to audit, and one with cycles.
 
-use crate::lent::{Lent, NODE_CELLS, SLOTS, WALKS, WALK_NUMBERS};
 use crate::rng::Rng;
 use formulas::{degree, height, nodes_at_level, LENGTH_LIMIT};
+use lent::{Lent, NODE_CELLS, SLOTS, WALKS, WALK_NUMBERS};
 
 const LEAF: u8 = 1;
 const BRANCH: u8 = 2;

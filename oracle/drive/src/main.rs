@@ -10,7 +10,6 @@ mod edits;
 mod exhaust;
 mod ffi;
 mod hostile;
-mod lent;
 #[cfg(feature = "original")]
 mod original;
 mod ours;

@@ -18,7 +18,7 @@ impl Original {
         assert_eq!(CountingK::live(), 0, "lists of an earlier pool are live");
         Original {
             pool,
-            lists: vec![None; crate::lent::SLOTS],
+            lists: vec![None; lent::SLOTS],
         }
     }
 

@@ -1,7 +1,7 @@
 //! Every place of a lent state, and values to put there.
 
-use crate::lent::{Lent, NODE_CELLS, VERSION_NUMBERS, WALK_LEVELS, WALK_NUMBERS};
 use crate::rng::Rng;
+use lent::{Lent, NODE_CELLS, VERSION_NUMBERS, WALK_LEVELS, WALK_NUMBERS};
 use std::mem::replace;
 
 #[derive(Clone, Copy, Debug, PartialEq, Eq)]

@@ -1,7 +1,7 @@
 //! Document 01's well-formed state as a plain program, slow and simple: it shares nothing with the audit that it is held against.
 
-use crate::lent::{Lent, Version, NODE_CELLS, SLOTS, VERSION_NUMBERS};
-use crate::lent::{WALKS, WALK_LEVELS, WALK_NUMBERS};
+use lent::{Lent, Version, NODE_CELLS, SLOTS, VERSION_NUMBERS};
+use lent::{WALKS, WALK_LEVELS, WALK_NUMBERS};
 
 const MOST_NODES: usize = 65_536;
 const FREE: u8 = 0;

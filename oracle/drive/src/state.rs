@@ -1,7 +1,7 @@
 //! An owned state that our calls alone change, so that it stays well-formed.
 
 use crate::ffi::{self, Answer};
-use crate::lent::{Lent, Version, SLOTS, WALKS};
+use lent::{Lent, Version, SLOTS, WALKS};
 
 /// Document 01's number of a refusal.
 pub type Refusal = u32;

@@ -1,9 +1,9 @@
 //! One state judged by both audits.
 
 use crate::ffi;
-use crate::lent::Lent;
 use crate::plain_audit::{self, Verdict};
 use crate::state::NOT_WELL_FORMED;
+use lent::Lent;
 
 #[derive(Debug)]
 pub struct Both {

@@ -4,7 +4,7 @@ use super::instructions::jumperloft_counted;
 use super::row::{Row, Work, POOL};
 use super::runner::{sum_in_order, Runner};
 use crate::ffi;
-use crate::lent::Lent;
+use lent::{Lent, SLOTS};
 use session::frame::Frame;
 
 const ANSWER: usize = 6;
@@ -71,11 +71,8 @@ impl Runner for Ours {
     }
 
     fn sum(&self) -> u64 {
-        let live = self
-            .lent
-            .versions
-            .iter()
-            .filter(|version| version.live == 1);
+        let versions = (0..SLOTS).map(|slot| self.lent.version(slot));
+        let live = versions.filter(|version| version.live == 1);
         live.fold(self.answered, |sum, version| {
             sum_in_order(sum, self.lent.elements(version).into_iter())
         })
