@@ -15,7 +15,7 @@ pub use instructions::{count, instructions};
 use ours::Ours;
 use row::{rows, Row};
 pub use runner::Effort;
-use runner::{by_turns, Runner, Times, FULL};
+use runner::{by_turns, Repeated, Runner, Times, FULL};
 use std::fs;
 use std::path::Path;
 
@@ -117,13 +117,17 @@ fn measure(row: Row, library: Option<Library>, effort: Effort) -> Option<Measure
 /// Nothing where the side has no such row.
 fn runner(row: Row, side: Side, library: Option<Library>) -> Option<Box<dyn Runner>> {
     match side {
-        Side::Ours => boxed(Some(Ours::new(row))),
-        Side::Original => boxed(Original::new(row)),
-        Side::ImRc => boxed(ImRc::new(row, library)),
-        Side::Flat => boxed(Flat::new(row)),
+        // its batches hold all passes
+        Side::Ours => Some(Box::new(Ours::new(row))),
+        Side::Original => by_passes(row, Original::new(row)),
+        Side::ImRc => by_passes(row, ImRc::new(row, library)),
+        Side::Flat => by_passes(row, Flat::new(row)),
     }
 }
 
-fn boxed(runner: Option<impl Runner + 'static>) -> Option<Box<dyn Runner>> {
-    Some(Box::new(runner?))
+fn by_passes(row: Row, runner: Option<impl Runner + 'static>) -> Option<Box<dyn Runner>> {
+    Some(Box::new(Repeated {
+        runner: runner?,
+        times: row.passes,
+    }))
 }

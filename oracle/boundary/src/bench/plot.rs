@@ -19,14 +19,14 @@ pub fn plot(measured: &[Measured]) -> String {
         .filter_map(|line| Some((line, line.ratio()?)))
         .collect();
     let scale = Scale::of(&bars);
-    let (mut body, mut y, mut last) = (String::new(), TOP, "");
+    let (mut body, mut y, mut last) = (String::new(), TOP, String::new());
     for (line, ratio) in &bars {
-        let name = line.row.name();
-        if name != last {
+        let label = line.row.label();
+        if label != last {
             y += GAP;
-            body += &text(LEFT - 10.0, y + BAR + 4.0, "end", 13, name);
+            body += &text(LEFT - 10.0, y + BAR + 4.0, "end", 13, &label);
         }
-        last = name;
+        last = label;
         body += &bar(&scale, y, line.row.bits, *ratio);
         y += BAR;
     }

@@ -11,6 +11,8 @@ pub const POOL: usize = 65_536;
 const COMPARED_LENGTH: u32 = LENGTH_LIMIT - 16;
 const COMPARES: u32 = 100;
 const FRAMES_OF_EDITS: usize = 16_384;
+/// Of a long batch of reads.
+const PASSES: u32 = 32;
 const SEED: u64 = 1;
 /// Where an edit of the list goes, and back from there.
 const OTHER: u8 = 1;
@@ -38,26 +40,21 @@ use Work::*;
 pub struct Row {
     pub work: Work,
     pub bits: u32,
+    /// How often a batch reads the whole list.
+    pub passes: u32,
 }
 
-/// Each work with bits 5 and with bits 1; forming knows no bits.
+/// Each work with bits 5 and with bits 1, reads in long batches and in short ones; forming knows no bits.
 pub fn rows() -> Vec<Row> {
-    let works = [
-        Forward,
-        Backward,
-        GetsInOrder,
-        GetsAtRandom,
-        Push,
-        Set,
-        Drop,
-        Release,
-        Compare,
-        Audit,
-    ];
-    let both = |work| [5, 1].map(|bits| Row { work, bits });
-    let mut rows: Vec<Row> = works.into_iter().flat_map(both).collect();
-    let (work, bits) = (Form, 5);
-    rows.push(Row { work, bits });
+    let reads = [Forward, Backward, GetsInOrder, GetsAtRandom];
+    let others = [Push, Set, Drop, Release, Compare, Audit];
+    let row = |work, bits, passes| Row { work, bits, passes };
+    let long = |work| [5, 1].map(|bits| row(work, bits, PASSES));
+    let short = |work| [5, 1].map(|bits| row(work, bits, 1));
+    let mut rows: Vec<Row> = reads.into_iter().flat_map(long).collect();
+    rows.extend(reads.into_iter().flat_map(short));
+    rows.extend(others.into_iter().flat_map(short));
+    rows.push(row(Form, 5, 1));
     rows
 }
 
@@ -78,8 +75,20 @@ impl Row {
         }
     }
 
+    pub fn reads(&self) -> bool {
+        matches!(self.work, Forward | Backward | GetsInOrder | GetsAtRandom)
+    }
+
+    /// The name, and how long the batches are where that differs.
+    pub fn label(&self) -> String {
+        if self.reads() && self.passes == 1 {
+            return format!("{}, short", self.name());
+        }
+        self.name().to_string()
+    }
+
     pub fn title(&self) -> String {
-        format!("{}, bits {}", self.name(), self.bits)
+        format!("{}, bits {}", self.label(), self.bits)
     }
 
     /// Of the list at its longest.
@@ -95,7 +104,7 @@ impl Row {
         match self.work {
             Form | Audit => 1,
             Compare => COMPARES * self.length(),
-            _ => self.length(),
+            _ => self.passes * self.length(),
         }
     }
 
@@ -149,6 +158,10 @@ impl Row {
     }
 
     pub fn frames(&self) -> Vec<Frame> {
+        self.frames_of_a_pass().repeat(self.passes as usize)
+    }
+
+    fn frames_of_a_pass(&self) -> Vec<Frame> {
         let length = self.length();
         let get = |index| Frame {
             index,

@@ -31,6 +31,28 @@ pub trait Runner {
     fn sum(&self) -> u64;
 }
 
+/// Each run of it so many times.
+pub struct Repeated<R> {
+    pub runner: R,
+    pub times: u32,
+}
+
+impl<R: Runner> Runner for Repeated<R> {
+    fn prepare(&mut self) {
+        self.runner.prepare();
+    }
+
+    fn run(&mut self) {
+        for _ in 0..self.times {
+            self.runner.run();
+        }
+    }
+
+    fn sum(&self) -> u64 {
+        self.runner.sum()
+    }
+}
+
 /// Seconds of one run.
 #[derive(Clone, Copy, Debug)]
 pub struct Times {

@@ -21,7 +21,7 @@ pub fn table(measured: &[Measured]) -> String {
             _ => grouped(row.frames_a_batch() as f64),
         };
         let cells = [
-            row.name().to_string(),
+            row.label(),
             bits(row),
             batch,
             grouped(line.ours.count as f64),
@@ -57,7 +57,7 @@ pub fn instructions_table(counted: &[Counted]) -> String {
         let cell = |run: Option<f64>| run.map_or(String::new(), each);
         let ratio = line.original.map(|original| line.ours / original);
         let cells = [
-            row.name().to_string(),
+            row.label(),
             bits(row),
             each(line.ours),
             cell(line.audits),
