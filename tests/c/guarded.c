@@ -16,9 +16,9 @@ static void must(int ok, const char *what)
     }
 }
 
-static slice guard(size_t size, side where)
+static slice guard(size_t size)
 {
-    slice s = {NULL, size, NULL, 0};
+    slice s = {NULL, 0, NULL, 0};
     if (size == 0) {
         return s;
     }
@@ -28,32 +28,50 @@ static slice guard(size_t size, side where)
     must(all != (uint8_t *)MAP_FAILED, "mmap");
     s.pages = all + page;
     must(mprotect(s.pages, s.pages_size, PROT_READ | PROT_WRITE) == 0, "mprotect");
-    s.data = where == AT_START ? s.pages : s.pages + (s.pages_size - size);
     return s;
+}
+
+size_t *count_of(jumperloft1_sizes_of *n, int which)
+{
+    size_t *const all[LENT] = {&n->nodes, &n->used, &n->counts, &n->cells, &n->order, &n->versions, &n->walk_numbers,
+        &n->walk_nodes, &n->walk_indices};
+    return all[which];
+}
+
+static size_t bytes_of(int which, jumperloft1_sizes_of n, size_t requests, size_t room)
+{
+    static const size_t element[LENT] = {1, 1, 4, 4, 4, sizeof(jumperloft1_version), 4, 4, 4};
+    return which == REQUESTS ? requests : which == ROOM ? room : element[which] * *count_of(&n, which);
+}
+
+void lend_anew(loan *lent, jumperloft1_sizes_of n, size_t requests, size_t room, side where)
+{
+    lent->bytes = 0;
+    for (int i = 0; i < SLICES; i++) {
+        slice *s = &lent->slices[i];
+        s->size = bytes_of(i, n, requests, room);
+        s->data = s->size == 0 ? NULL : where == AT_START ? s->pages : s->pages + (s->pages_size - s->size);
+        lent->bytes += s->size;
+    }
+    lent->state.kinds = lent->slices[KINDS].data;
+    lent->state.used = lent->slices[USED].data;
+    lent->state.counts = (uint32_t *)(void *)lent->slices[COUNTS].data;
+    lent->state.cells = (uint32_t *)(void *)lent->slices[CELLS].data;
+    lent->state.order = (uint32_t *)(void *)lent->slices[ORDER].data;
+    lent->state.versions = (jumperloft1_version *)(void *)lent->slices[VERSIONS].data;
+    lent->state.walk_numbers = (uint32_t *)(void *)lent->slices[WALK_NUMBERS].data;
+    lent->state.walk_nodes = (uint32_t *)(void *)lent->slices[WALK_NODES].data;
+    lent->state.walk_indices = (int32_t *)(void *)lent->slices[WALK_INDICES].data;
+    lent->state.sizes = n;
 }
 
 loan lend_sizes(jumperloft1_sizes_of n, size_t requests, size_t room, side where)
 {
-    const size_t word = sizeof(uint32_t);
-    const size_t sizes[SLICES] = {n.nodes, n.used, word * n.counts, word * n.cells, word * n.order,
-        sizeof(jumperloft1_version) * n.versions, word * n.walk_numbers, word * n.walk_nodes, word * n.walk_indices,
-        requests, room};
     loan lent;
-    lent.bytes = 0;
     for (int i = 0; i < SLICES; i++) {
-        lent.slices[i] = guard(sizes[i], where);
-        lent.bytes += sizes[i];
+        lent.slices[i] = guard(bytes_of(i, n, requests, room));
     }
-    lent.state.kinds = lent.slices[KINDS].data;
-    lent.state.used = lent.slices[USED].data;
-    lent.state.counts = (uint32_t *)(void *)lent.slices[COUNTS].data;
-    lent.state.cells = (uint32_t *)(void *)lent.slices[CELLS].data;
-    lent.state.order = (uint32_t *)(void *)lent.slices[ORDER].data;
-    lent.state.versions = (jumperloft1_version *)(void *)lent.slices[VERSIONS].data;
-    lent.state.walk_numbers = (uint32_t *)(void *)lent.slices[WALK_NUMBERS].data;
-    lent.state.walk_nodes = (uint32_t *)(void *)lent.slices[WALK_NODES].data;
-    lent.state.walk_indices = (int32_t *)(void *)lent.slices[WALK_INDICES].data;
-    lent.state.sizes = n;
+    lend_anew(&lent, n, requests, room, where);
     return lent;
 }
 
@@ -67,16 +85,20 @@ void give_back(loan *lent)
     const size_t page = (size_t)sysconf(_SC_PAGESIZE);
     for (int i = 0; i < SLICES; i++) {
         const slice *s = &lent->slices[i];
-        if (s->size != 0) {
+        if (s->pages != NULL) {
             must(munmap(s->pages - page, s->pages_size + 2 * page) == 0, "munmap");
         }
     }
 }
 
+/* The pages that a slice has bytes in. */
 static void protect(const slice *s, int how)
 {
     if (s->size != 0) {
-        must(mprotect(s->pages, s->pages_size, how) == 0, "mprotect");
+        const size_t page = (size_t)sysconf(_SC_PAGESIZE);
+        const size_t start = (size_t)(s->data - s->pages);
+        const size_t first = start / page, end = (start + s->size + page - 1) / page;
+        must(mprotect(s->pages + page * first, page * (end - first), how) == 0, "mprotect");
     }
 }
 
@@ -94,9 +116,9 @@ void writable(const loan *lent)
     }
 }
 
-void cells_read_only(const loan *lent)
+void slice_read_only(const loan *lent, int which)
 {
-    protect(&lent->slices[CELLS], PROT_READ);
+    protect(&lent->slices[which], PROT_READ);
 }
 
 void save(const loan *lent, uint8_t *copy)
@@ -121,9 +143,9 @@ void load(const loan *lent, const uint8_t *copy)
     }
 }
 
-int same(const loan *lent, const uint8_t *copy)
+static int same_slices(const loan *lent, const uint8_t *copy, int slices)
 {
-    for (int i = 0; i < SLICES; i++) {
+    for (int i = 0; i < slices; i++) {
         const slice *s = &lent->slices[i];
         if (s->size != 0) {
             if (memcmp(s->data, copy, s->size) != 0) {
@@ -133,6 +155,16 @@ int same(const loan *lent, const uint8_t *copy)
         }
     }
     return 1;
+}
+
+int same(const loan *lent, const uint8_t *copy)
+{
+    return same_slices(lent, copy, SLICES);
+}
+
+int same_state(const loan *lent, const uint8_t *copy)
+{
+    return same_slices(lent, copy, LENT);
 }
 
 jumperloft1_report form_of(const loan *lent)

@@ -25,16 +25,23 @@ typedef struct loan {
 /* Lends slices of these sizes, a null pointer where a size is 0, and room for so many bytes of requests and answers. */
 loan lend_sizes(jumperloft1_sizes_of sizes, size_t requests, size_t room, side where);
 loan lend(size_t nodes, size_t requests, size_t room, side where);
+/* Lends other sizes in the same pages; none is above what the loan was made with. */
+void lend_anew(loan *lent, jumperloft1_sizes_of sizes, size_t requests, size_t room, side where);
 void give_back(loan *lent);
+
+/* The member of sizes that a slice has, by its place in the order of the arguments. */
+size_t *count_of(jumperloft1_sizes_of *sizes, int which);
 
 void read_only(const loan *lent);
 void writable(const loan *lent);
-void cells_read_only(const loan *lent);
+void slice_read_only(const loan *lent, int which);
 
 /* All bytes of all slices, one after another: out, back, and compared. */
 void save(const loan *lent, uint8_t *copy);
 void load(const loan *lent, const uint8_t *copy);
 int same(const loan *lent, const uint8_t *copy);
+/* The same for the state alone, which stands before the requests and the room. */
+int same_state(const loan *lent, const uint8_t *copy);
 
 /* The calls over all that is lent, with the first bytes of the requests and of the room. */
 jumperloft1_report form_of(const loan *lent);

@@ -74,7 +74,7 @@ static void forming(side where)
         at_work_on("forming", all[i]);
         loan lent = lend(all[i], BYTES, ANSWERS, where);
         fill_all(&lent);
-        cells_read_only(&lent);
+        slice_read_only(&lent, CELLS);
         want(reports(form_of(&lent), JUMPERLOFT1_DONE, 0), "formed");
         writable(&lent);
         want(is_fresh(&lent.state), "fresh");

@@ -56,14 +56,6 @@ static void bad_lengths(side where)
     }
 }
 
-/* The member of sizes that a slice has, by its place in the order of the arguments. */
-static size_t *member(jumperloft1_sizes_of *n, int which)
-{
-    size_t *const all[LENT] = {&n->nodes, &n->used, &n->counts, &n->cells, &n->order, &n->versions, &n->walk_numbers,
-        &n->walk_nodes, &n->walk_indices};
-    return all[which];
-}
-
 /* A state that would be fresh, but for its sizes. */
 static void refused_sizes(jumperloft1_sizes_of n, side where)
 {
@@ -90,7 +82,7 @@ static void bad_sizes(side where)
         at_work_on("a slice of a wrong size", (unsigned long)which);
         for (int how = 0; how < 5; how++) {
             jumperloft1_sizes_of n = jumperloft1_sizes(40);
-            size_t *count = member(&n, which);
+            size_t *count = count_of(&n, which);
             const size_t others[5] = {0, 1, *count - 1, *count + 1, 2 * *count};
             *count = others[how];
             refused_sizes(n, where);
