@@ -81,4 +81,4 @@ bench-program:
 record:
 	@cd oracle && $(JUDGE) record recorded && $(SESSION) record recorded && $(DRIVE) record recorded
 
-include make/c.mk make/rust.mk make/plugins.mk make/boundary.mk
+include make/c.mk make/rust.mk make/plugins.mk make/boundary.mk make/fuzz.mk
