@@ -1,4 +1,4 @@
-/* A plain reading of a state, and what one frame has to make of it. */
+/* What a state holds, and what a frame has to make of it. */
 #include "contents.h"
 
 #include "hold.h"
@@ -60,7 +60,7 @@ uint32_t count_free(const uint8_t *kinds, size_t nodes)
 {
     uint32_t count = 0;
     for (size_t i = 0; i < nodes; i++) {
-        count += kinds[i] == 0;
+        count += kinds[i] == FREE_KIND;
     }
     return count;
 }

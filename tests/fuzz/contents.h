@@ -1,9 +1,11 @@
-/* What a state holds, by a plain reading of its nodes, and what one frame has to make of it. */
+/* A plain reading of a state: whether it is well-formed, what it holds, and what a frame has to make of it. */
 #ifndef CONTENTS_H
 #define CONTENTS_H
 
 #include <jumperloft.h>
 
+enum { FREE_KIND, LEAF_KIND, BRANCH_KIND };
+enum { LEVELS = 15 }; /* of a list at most, and of a walk's stack */
 /* a walk's numbers */
 enum { WALK_LIVE, WALK_ROOT, WALK_BITS, WALK_LENGTH, TAKEN_IN_FRONT, TAKEN_AT_BACK, WALK_RECORD };
 
@@ -26,6 +28,8 @@ uint32_t height_of(uint32_t bits, uint32_t length);
 uint32_t count_free(const uint8_t *kinds, size_t nodes);
 /* The number that a frame has to be answered with in this state. */
 uint32_t expected_number(const jumperloft1_state *state, const uint8_t *frame);
+/* Of any bytes, of up to twice MOST_NODES nodes. */
+int is_well_formed(const jumperloft1_state *state);
 /* Of every slot of a well-formed state. */
 void read_contents(const jumperloft1_state *state, contents all[JUMPERLOFT1_VERSIONS]);
 

@@ -3,9 +3,6 @@
 #include "contents.h"
 #include "steps.h"
 
-enum { FREE_KIND, LEAF_KIND, BRANCH_KIND };
-enum { LEVELS = 15 };
-
 typedef struct folding {
     const jumperloft1_state *state;
     uint32_t bits;

@@ -5,12 +5,14 @@
 
 #include <stdalign.h>
 
-enum { SLICES_SEEN = 16, DAMAGE_SEEN = 16, OPERATIONS_SEEN = 18, NUMBERS_SEEN = 16, BITS_SEEN = 8, LENGTHS_SEEN = 32, AMOUNTS_SEEN = 32 };
+enum { SLICES_SEEN = 9, DAMAGE_SEEN = 16, PLACES_SEEN = 32, OPERATIONS_SEEN = 18, NUMBERS_SEEN = 16 };
+enum { BITS_SEEN = 8, LENGTHS_SEEN = 32, AMOUNTS_SEEN = 32 };
 
 /* each a multiple of 8 bytes, as libFuzzer clears words; volatile, as nothing in sight reads them */
 #define COUNTERS static alignas(8) __attribute__((section("__libfuzzer_extra_counters"))) volatile uint8_t
 COUNTERS answers[OPERATIONS_SEEN][NUMBERS_SEEN];
 COUNTERS damages[SLICES_SEEN][DAMAGE_SEEN][NUMBERS_SEEN];
+COUNTERS places[SLICES_SEEN][PLACES_SEEN][NUMBERS_SEEN];
 COUNTERS lists[BITS_SEEN][LENGTHS_SEEN];
 COUNTERS free_amounts[AMOUNTS_SEEN];
 COUNTERS shared_amounts[AMOUNTS_SEEN];
@@ -41,10 +43,11 @@ void saw_answer(uint8_t operation, uint8_t number)
     }
 }
 
-void saw_damage(unsigned slice, unsigned how, uint32_t number)
+void saw_damage(unsigned slice, unsigned how, size_t place, uint32_t number)
 {
     if (!blind) {
         damages[slice % SLICES_SEEN][how % DAMAGE_SEEN][number % NUMBERS_SEEN] = 1;
+        places[slice % SLICES_SEEN][place % PLACES_SEEN][number % NUMBERS_SEEN] = 1;
     }
 }
 
@@ -61,7 +64,7 @@ void saw_state(const jumperloft1_state *state)
         }
     }
     for (size_t i = 0; i < state->sizes.nodes; i++) {
-        free_nodes += state->kinds[i] == 0;
+        free_nodes += state->kinds[i] == FREE_KIND;
         most_shared = state->counts[i] > most_shared ? state->counts[i] : most_shared;
     }
     for (size_t i = 0; i < JUMPERLOFT1_WALK_NUMBERS; i += WALK_RECORD) {

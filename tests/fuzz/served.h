@@ -4,8 +4,6 @@
 
 #include "twins.h"
 
-/* What is refused whatever the state holds, or DONE. */
-uint32_t refusal_of_sizes(const twins *t, const call *c);
 /* After the first twin's call reported that it is done. */
 void check_served(const twins *t, const call *c, jumperloft1_report report);
 

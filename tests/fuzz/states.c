@@ -71,13 +71,14 @@ static void put_element(uint8_t *at, size_t size, uint32_t value)
     memcpy(at, &value, size);
 }
 
-void damage(const twins *t, const uint8_t *step)
+size_t damage(const twins *t, const uint8_t *step)
 {
+    static const size_t record[LENT] = {1, 1, 1, JUMPERLOFT1_NODE_CELLS, 1, 4, 6, 30, 30};
     const int which = step[1] % LENT;
     const slice *s = &t->first.slices[which];
     const size_t size = element_size(which), count = s->size / size;
     if (count == 0) {
-        return;
+        return 0;
     }
     const uint32_t number = (uint32_t)step[5] << 8 | step[6];
     const size_t place = ((size_t)step[3] << 8 | step[4]) % count;
@@ -96,6 +97,7 @@ void damage(const twins *t, const uint8_t *step)
     case COPY: put_element(at, size, element(from, size)); break;
     default: memmove(at, from, size * (run < most ? run : most));
     }
+    return place % record[which];
 }
 
 /* One slice, or all that is lent: the pattern over and over, or numbers below 3 that come from it. */

@@ -10,6 +10,7 @@ typedef struct work {
     twins *t;
     call batch;
     uint8_t damaged[STEP];
+    size_t damaged_place;
     int is_damaged;
 } work;
 
@@ -86,7 +87,8 @@ static void call_batch(work *w, const uint8_t *step)
     w->batch.one_by_one = step[3] % 2;
     const uint32_t number = batch_checked(w->t, &w->batch);
     if (w->is_damaged && (number == JUMPERLOFT1_DONE || number == JUMPERLOFT1_ILL_FORMED)) {
-        saw_damage(w->damaged[1] % LENT, w->damaged[2] % DAMAGES + (w->damaged[0] % ACTIONS == FILL ? DAMAGES : 0u), number);
+        const unsigned kind = w->damaged[0] % ACTIONS == FILL ? DAMAGES + w->damaged[2] % 4u : w->damaged[2] % (unsigned)DAMAGES;
+        saw_damage(w->damaged[1] % LENT, kind, w->damaged_place, number);
         w->is_damaged = 0;
     }
     w->batch.requests_size = 0;
@@ -95,8 +97,9 @@ static void call_batch(work *w, const uint8_t *step)
 static void spoil(work *w, const uint8_t *step)
 {
     if (step[0] % ACTIONS == DAMAGE) {
-        damage(w->t, step);
+        w->damaged_place = damage(w->t, step);
     } else {
+        w->damaged_place = 0;
         fill_slices(w->t, step);
     }
     memcpy(w->damaged, step, STEP);

@@ -36,7 +36,8 @@ void run_steps(twins *t, const uint8_t *data, size_t size);
 void begin(twins *t, const uint8_t *step);
 /* In a fresh state of 30 nodes or more: a list in party 0's slot 0 whose equal full subtrees are one node. */
 void make_folded(const jumperloft1_state *state, uint32_t bits, uint32_t length);
-void damage(const twins *t, const uint8_t *step);
+/* Gives back the place that was damaged, counted within a record: a node's cells, a version, a walk's numbers or its levels. */
+size_t damage(const twins *t, const uint8_t *step);
 void fill_slices(const twins *t, const uint8_t *step);
 
 /* Writes the inputs that a fuzzer starts from to a folder. */

@@ -12,7 +12,7 @@ typedef struct twins {
     loan first, second;
     uint8_t *before; /* all that was lent to the call at hand */
     uint8_t *after;
-    uint8_t *good; /* the last state that was served or formed; well-formed if the sizes fit */
+    uint8_t *good; /* the last state that was served or formed */
 } twins;
 
 typedef struct call {
