@@ -1,16 +1,18 @@
 -- What the calls of the comparison give is what the model says.
 use mathlib.Core.Path.{_≡_, refl, sym, _∙_}
 use mathlib.Core.Logic.{_≢_}
-use mathlib.Core.Bool.{Bool, true, false, cond, not, _&&_}
+use mathlib.Core.Bool.{Bool, true, false, cond, not, _&&_, false≢true}
 use mathlib.Core.List.{List}
-use Prim.Native.Nat.{ℕ, _≤_, _<_, _*_}
+use Prim.Native.Nat.{ℕ, _+_, _≤_, _<_, _*_}
+use native.Mathlib.Decide.{ℕ-discrete}
+use native.Mathlib.Omega.{arith}
 use lib.Dec.{eqb, leb}
 use lib.ListN.{getD}
 use borrow.Author.Tests.{eq-eqb, ne-eqb, le-leb, lt-leb}
 use Rattle.meaning.specs.Limits.{maxNodes, nodeCells, FREE, walkLevels, walkNumbers}
 use Rattle.meaning.specs.Lent.{Nodes, kindOf, usedOf, cellOf}
 use Rattle.audit_model.specs.Audit.{walkCount, lengthsOk, spareOk, nodeOk}
-use Rattle.audit_model.proofs.Steps.{Held, from-ends, from-fails, cond-yes, cond-no, and-yes, and-no}
+use Rattle.audit_model.proofs.Steps.{Held, held-start, held-next, from-ends, from-fails, cond-yes, cond-no, and-yes, and-no}
 
 module _ (u : ℕ) (cell : ℕ → ℕ) where
   pub spare-zero : (i x : ℕ) → x ≡ cell i → x ≡ 0 → eqb (cell i) 0 ≡ true
@@ -23,6 +25,25 @@ module _ (u : ℕ) (cell : ℕ → ℕ) where
   pub spare-fails : (i x : ℕ) → u ≤ i → i < nodeCells → x ≡ cell i → x ≢ 0 → false ≡ spareOk u cell
   unfolding spareOk
   spare-fails i x l k p f = from-fails u i nodeCells (λ j. eqb (cell j) 0) l k (ne-eqb (cell i) 0 (λ e. f (p ∙ e)))
+
+  -- what a loop without a way out knows when it has looked at the cells before i
+  abbrev pub Looked : (i : ℕ) → (ok : Bool) → Type 0
+  Looked i ok = (u ≤ i) × (ok ≡ true → Held u i (λ j. eqb (cell j) 0)) × (ok ≡ false → false ≡ spareOk u cell)
+
+  pub look-begins : Looked u true
+  look-begins = (omega arith, λ e. held-start u (λ j. eqb (cell j) 0), λ e. absurd (false≢true (sym e)))
+
+  pub look-goes-on : (i x : ℕ) (ok : Bool) → Looked i ok → i < nodeCells → x ≡ cell i → Looked (i + 1) (ok && eqb x 0)
+  look-goes-on i x false (l, h, f) k e = (omega arith, λ q. absurd (false≢true q), λ q. f refl)
+  look-goes-on i x true (l, h, f) k e = pick (ℕ-discrete x 0)
+    where
+      pick : Dec (x ≡ 0) → Looked (i + 1) (eqb x 0)
+      pick (yes z) = rw (eq-eqb x 0 z) (omega arith, λ q. held-next u i (λ j. eqb (cell j) 0) (h refl) (spare-zero i x e z), λ q. absurd (false≢true (sym q)))
+      pick (no n) = rw (ne-eqb x 0 n) (omega arith, λ q. absurd (false≢true q), λ q. spare-fails i x l k e n)
+
+  pub look-ends : (i : ℕ) (ok : Bool) → Looked i ok → nodeCells ≤ i → ok ≡ spareOk u cell
+  look-ends i true (l, h, f) k = spare-ends i (h refl) k
+  look-ends i false (l, h, f) k = f refl
 
 module _ (s : Nodes) (counts codes t : List ℕ) (n k u c x : ℕ) (kind : k ≡ kindOf s n) (used : u ≡ usedOf s n) (count : c ≡ getD counts n 0) (tally : x ≡ getD t n 0) where
   node-is : (m : ℕ) → m ≡ getD codes n 0

@@ -42,8 +42,22 @@ pub fn lengths_ok(
         & (indices == WALK_LEVELS)
 }
 
-// Whether the cells of a node from u upwards are 0.
-pub fn spare_ok(cells: &[u32], n: u32, u: u32) -> bool
+// Whether the cells of a node from u upwards are 0, each looked at: with no way out of the loop, the compiler takes several at a time.
+pub fn row_spare_ok(cells: &[u32], at: usize, u: u32) -> bool
+    requires { ⌜ at + nodeCells ≤ length (now cells) ⌝ }
+    ensures { λ r. ⌜ r ≡ spareOk u (λ (i : ℕ). getD (now (cells .entry)) (at + i) 0) ⌝ }
+{
+    let mut ok = true;
+    let mut i = u as usize;
+    while i < CELLS {
+        ok = ok & (cells[at + i] == 0);
+        i += 1;
+    }
+    ok
+}
+
+// The same cell by cell, of a node whose cells are not all there: what is not there reads 0.
+pub fn part_spare_ok(cells: &[u32], n: u32, u: u32) -> bool
     ensures { λ r. ⌜ r ≡ spareOk u (λ (i : ℕ). getD (now (cells .entry)) (nodeCells * n + i) 0) ⌝ }
 {
     let mut i: u32 = u;
@@ -55,6 +69,16 @@ pub fn spare_ok(cells: &[u32], n: u32, u: u32) -> bool
         i += 1;
     }
     true
+}
+
+pub fn spare_ok(cells: &[u32], n: u32, u: u32) -> bool
+    ensures { λ r. ⌜ r ≡ spareOk u (λ (i : ℕ). getD (now (cells .entry)) (nodeCells * n + i) 0) ⌝ }
+{
+    let at = CELLS * (n as usize);
+    if at + CELLS <= cells.len() {
+        return row_spare_ok(cells, at, u);
+    }
+    part_spare_ok(cells, n, u)
 }
 
 // A free node stands in the order once, is linked by none and is 0; any other was reached, and its count is the links to it.

@@ -1,4 +1,4 @@
--- `audit_compare::spare_ok` meets its contract.
+-- `audit_compare::part_spare_ok` meets its contract.
 use Prim.Native.Nat.{ℕ, _≤_, _-_, _+_, _*_}
 use native.Mathlib.Omega.{arith}
 use lib.ListN.{getD}
@@ -7,8 +7,8 @@ use borrow.Author.Needs.{needs}
 use Rattle.meaning.specs.Limits.{nodeCells}
 use Rattle.audit_model.proofs.Steps.{Held, held-start, held-next}
 use Rattle.audit_compare.proofs.Comparing.{spare-zero, spare-ends, spare-fails}
-use Rattle.audit_compare.proofs.spare_ok.Statement.{statement}
-use Rattle.audit_compare.proofs.spare_ok.Tie as tie
+use Rattle.audit_compare.proofs.part_spare_ok.Statement.{statement}
+use Rattle.audit_compare.proofs.part_spare_ok.Tie as tie
 
 abbrev Inv-loop : tie.InvT-loop
 Inv-loop cells n u i₀ i = (u ≤ i) × Held u i (λ (j : ℕ). eqb (getD cells (nodeCells * n + j) 0) 0)
@@ -37,8 +37,8 @@ loop-again c = (omega (arith, c .before .before .before .loop .inv .0), held-nex
 returns-2 : tie.Need-returns-2 Inv-loop μ-loop
 returns-2 c = spare-ends _ (λ (j : ℕ). getD (c .before .before .before .args .cells .now) (nodeCells * c .before .before .before .args .n + j) 0) (c .before .loop .i) (c .before .loop .inv .1) (c .loop-test .left)
 
-pub spare-ok-spec : {M : Type 1} → statement M
-spare-ok-spec =
+pub part-spare-ok-spec : {M : Type 1} → statement M
+part-spare-ok-spec =
     tie.close
     (tie.spec
     Inv-loop
