@@ -31,7 +31,7 @@ test: format
 	$(MAKE) --no-print-directory built && tail -n 1 "$$log"
 
 # all that runs what is built
-built: oracle kinds drive program boundary c-tests examples snippet rust-binding plugins
+built: oracle kinds drive program boundary c-tests fuzz-short examples snippet rust-binding plugins
 
 format:
 	@rt fmt --check

@@ -1,6 +1,6 @@
 #!/bin/sh
 # The fuzzer's objects, and the library as one object with a table of its blocks: build.sh ARCHIVE DIRECTORY COMPILER FLAGS..
-# Says why it is skipped, and exits with 77, where the compiler has no libFuzzer.
+# Says why it is skipped, and exits with 77, where the compiler has no libFuzzer or code can't be made writable.
 here=$(dirname "$0")
 archive=$1
 out=$2
@@ -11,9 +11,12 @@ if ! command -v "$compiler" >/dev/null 2>&1; then
     echo "fuzz: SKIPPED, there is no $compiler on this machine"
     exit 77
 fi
-echo 'int LLVMFuzzerTestOneInput(const char *data, unsigned long size) { return size && *data ? 0 : 0; }' >"$out/probe.c"
-if ! "$compiler" -fsanitize=fuzzer "$out/probe.c" -o "$out/probe" >/dev/null 2>&1; then
+if ! "$compiler" -fsanitize=fuzzer "$here/probe/probe.c" -o "$out/probe" >/dev/null 2>&1; then
     echo "fuzz: SKIPPED, $compiler has no libFuzzer on this machine"
+    exit 77
+fi
+if ! "$out/probe" -runs=1 >/dev/null 2>&1; then
+    echo "fuzz: SKIPPED, code can't be made writable on this machine, so its blocks can't be trapped"
     exit 77
 fi
 set -e
