@@ -18,7 +18,7 @@ BUILT_LIBRARY = $(or $(HOST_LIBRARY),target/staticlib/libhost.a)
 # what the long runs are made from; each prints it, and the same seed gives the same run
 SOAK_SEED ?= 2
 
-.PHONY: run test built format kinds oracle drive program soak soak-audit bench-audit bench-program record
+.PHONY: run test built built-by-rt built-with-library format kinds oracle drive program soak soak-audit bench-audit bench-program record
 
 # prints the program's output alone
 run:
@@ -30,8 +30,15 @@ test: format
 	@log=$$(mktemp) && trap 'rm -f "$$log"' EXIT && rt ci 2>&1 | tee "$$log" && tail -n 1 "$$log" | grep -qx '[0-9]* passed, 0 failed' && \
 	$(MAKE) --no-print-directory built && tail -n 1 "$$log"
 
-# all that runs what is built
-built: oracle kinds drive program boundary c-tests fuzz-short examples snippet rust-binding plugins
+# all that runs what is built, in two rows at a time: what calls rt, and what links the host's library
+built: host-library
+	@$(MAKE) --no-print-directory -j2 --output-sync=recurse built-by-rt built-with-library
+
+built-by-rt:
+	@$(MAKE) --no-print-directory -j1 oracle kinds drive program
+
+built-with-library:
+	@$(MAKE) --no-print-directory -j1 HOST_LIBRARY='$(BUILT_LIBRARY)' boundary c-tests fuzz-short examples snippet rust-binding plugins
 
 format:
 	@rt fmt --check
