@@ -1,7 +1,7 @@
 -- What the code of a signed index computes, bits and all, is what `specs/Index` says.
-use mathlib.Core.Path.{_≡_, refl, _∙_}
+use mathlib.Core.Path.{_≡_, refl, ap, _∙_}
 use mathlib.Core.Bool.{Bool, true, false, cond}
-use Prim.Native.Nat.{ℕ, suc, _^_, _<_}
+use Prim.Native.Nat.{ℕ, suc, _+_, _-_, _^_, _≤_, _<_}
 use native.Mathlib.Omega.{arith}
 use lib.Dec.{T, ltb, lit<}
 use lib.IntN.{ℤ, pos, negsuc, _+ℤ_, _-ℤ_, natAbs}
@@ -9,9 +9,9 @@ use lib.Signed.{mag, ltZ, leZ, nonNeg}
 use mir.Syntax.{w32}
 use mir.Val.{SFits, Fits, toZ, ofZ}
 use mir.Facts.{toZ-ofZ, toZ-pos}
-use borrow.Author.Tests.{ltb-true}
+use borrow.Author.Tests.{ltb-true, lt-ltb, le-ltb, lt-leb, leb-false}
 use Rattle.meaning.specs.Limits.{nodeCells}
-use Rattle.index.specs.Index.{first, advanced, finished, place}
+use Rattle.index.specs.Index.{first, advanced, finished, place, along, Within, InUse, Stays}
 
 small : (t : Bool) (x y k : ℕ) → x < k → y < k → mag (cond t (negsuc x) (pos y)) < k
 small true x y k p q = p
@@ -109,3 +109,63 @@ advanced-by b d j z e g f p = rw (read z (record { sfits = f }), e) (rw (read j 
 pub empty-leaf : (first true 0 ≡ negsuc 0) × (finished true 0 (first true 0) ≡ true)
 unfolding first finished
 empty-leaf = (refl, refl)
+
+-- ---- so many steps at once
+
+past-first : (z : ℤ) → leZ z (pos 0) ≡ false → (ltZ z (pos 0) ≡ false) × ((z ≡ pos (place z)) × (0 < place z))
+unfolding place
+past-first (pos n) e = let h : 0 < n = leb-false n 0 e in (le-ltb n 0 (omega arith), (refl, h))
+past-first (negsuc n) e = let z : _≡_ {A = ℕ} 0 1 = cc in absurd (omega arith)
+
+pub not-first : (z : ℤ) → leZ (toZ w32 (ofZ w32 z)) (pos 0) ≡ false → ltZ (toZ w32 (ofZ w32 z)) (pos 0) ≡ false
+not-first z e = past-first (toZ w32 (ofZ w32 z)) e .0
+
+pub stays : (b : Bool) (u : ℕ) (z : ℤ) (r : ℕ) → SFits w32 z → leZ (toZ w32 (ofZ w32 z)) (pos 0) ≡ false
+    → (0 < r → Within b (natAbs (toZ w32 (ofZ w32 z))) r × InUse b u (natAbs (toZ w32 (ofZ w32 z))) r) → 0 < r → Stays b u z r
+stays b u z r f e h p =
+    let i : natAbs (toZ w32 (ofZ w32 z)) ≡ place z = place-is z f (not-first z e) in
+    let q : Within b (place z) r × InUse b u (place z) r = rw i at (h p) in
+    let t : (ltZ z (pos 0) ≡ false) × ((z ≡ pos (place z)) × (0 < place z)) = past-first z (rw (read z f) at e) in
+    record { cell = t .1 .0; past = t .1 .1; within = q .0; inUse = q .1 }
+
+pub left-below : (b : Bool) (u i r : ℕ) → b ≡ true → (0 < r → Within true i r) → 0 < r → Within b i r × InUse b u i r
+unfolding Within InUse
+left-below b u i r e h p = rw e (h p, h p .0)
+
+pub left-above : (b : Bool) (u i r : ℕ) → b ≡ false → (0 < r → Within false i r × InUse false u i r) → 0 < r → Within b i r × InUse b u i r
+left-above b u i r e h p = rw e (h p)
+
+pub downwards : (b : Bool) (i m : ℕ) → b ≡ true → Within b i m → (m ≤ i) × ((i - m ≡ along b i m) × (i - m < nodeCells))
+unfolding Within along
+downwards true i m e w = (w .0, (refl, omega (arith, w .1)))
+downwards false i m e w = let z : _≡_ {A = ℕ} 0 1 = cc in absurd (omega arith)
+
+pub upwards : (b : Bool) (i m : ℕ) → b ≡ false → Within b i m → Fits w32 (i + m) × ((i + m ≡ along b i m) × (i + m < nodeCells))
+unfolding Within along
+upwards false i m e w = (record { fits = omega arith }, (refl, w))
+upwards true i m e w = let z : _≡_ {A = ℕ} 0 1 = cc in absurd (omega arith)
+
+pub at-is : (i : ℕ) → i < nodeCells → toZ w32 i ≡ pos i
+at-is i l = toZ-pos w32 (omega arith)
+
+pub less-within : (b : Bool) (i r m : ℕ) → Within b i r → m ≤ r → Within b i m
+unfolding Within
+less-within false i r m w l = omega arith
+less-within true i r m w l = (omega (arith, w .0), w .1)
+
+pub along-none : (b : Bool) (i : ℕ) → along b i 0 ≡ i
+unfolding along
+along-none false i = omega arith
+along-none true i = omega arith
+
+-- a step leads from cell to cell
+pub goes-along : (b : Bool) (i r m : ℕ) → Within b i r → m < r → advanced b (pos (along b i m)) ≡ pos (along b i (m + 1))
+unfolding advanced along Within
+goes-along false i r m w l = rw (lt-ltb (i + m) nodeCells (omega arith)) (ap pos (omega arith))
+goes-along true i r m w l = rw (le-ltb (i - m) 0 (omega arith), le-ltb (i - m) 1 (omega (arith, w .0))) (ap pos (omega arith))
+
+-- and has not finished
+pub in-use-on : (b : Bool) (u i r m : ℕ) → InUse b u i r → m < r → finished b u (pos (along b i (m + 1))) ≡ false
+unfolding finished along InUse
+in-use-on false u i r m w l = lt-leb u (i + (m + 1)) (omega arith)
+in-use-on true u i r m w l = le-ltb (i - (m + 1)) 0 (omega arith)

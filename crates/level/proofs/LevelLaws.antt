@@ -13,7 +13,7 @@ use Rattle.index.proofs.IndexLaws.{read}
 use Rattle.index.specs.Index.{first, advanced, finished, place}
 use Rattle.level.specs.Level.{Levels, levels, currentAt, pushed, dug, indexAfter, steppedAt, endedAt}
 
-reads : (z : ℤ) → mag z < 2 ^ 31 → toZ w32 (ofZ w32 z) ≡ z
+pub reads : (z : ℤ) → mag z < 2 ^ 31 → toZ w32 (ofZ w32 z) ≡ z
 reads z h = read z (record { sfits = h })
 
 pub current-is : (cs ns : List ℕ) (is : List ℤ) (k i r : ℕ) (z : ℤ) → z ≡ getD is k (pos 0) → mag z < 2 ^ 31

@@ -1,1 +1,2 @@
 pub mod LevelLaws
+pub mod Passing

@@ -5,7 +5,7 @@ use Prim.Native.Nat.{ℕ, _+_, _*_}
 use lib.ListN.{getD, set}
 use lib.IntN.{ℤ, pos}
 use Rattle.meaning.specs.Limits.{nodeCells, parties, partyWalks, walkLevels}
-use Rattle.index.specs.Index.{first, advanced, finished, place}
+use Rattle.index.specs.Index.{first, advanced, finished, place, along, Stays}
 
 abbrev pub places : ℕ
 places = parties * partyWalks * (2 * walkLevels)
@@ -39,3 +39,17 @@ steppedAt b w k = levels (w .nodes) (set (w .indices) k (indexAfter b w k))
 -- the level has finished after the step
 unfoldable pub endedAt : (used : List ℕ) → (back : Bool) → Levels → (k : ℕ) → Bool
 endedAt us b w k = finished b (getD us (getD (w .nodes) k 0) 0) (indexAfter b w k)
+
+-- ---- so many steps at once
+
+-- the cell of its node that a level is at
+unfoldable pub placeAt : (indices : List ℤ) → (k : ℕ) → ℕ
+placeAt is k = place (getD is k (pos 0))
+
+-- m steps of a level stay in its node
+unfoldable pub StaysAt : (used : List ℕ) → (back : Bool) → Levels → (k m : ℕ) → Type 0
+StaysAt us b w k m = Stays b (getD us (getD (w .nodes) k 0) 0) (getD (w .indices) k (pos 0)) m
+
+-- the indices after m steps of a level that stay in its node
+unfoldable pub passedAt : (back : Bool) → (indices : List ℤ) → (k m : ℕ) → List ℤ
+passedAt b is k m = set is k (pos (along b (placeAt is k) m))

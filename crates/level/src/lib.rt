@@ -4,7 +4,8 @@ ghost use mathlib.Core.Path.{_≡_};
 ghost use mathlib.Core.Bool.{Bool, true, false};
 ghost use Prim.Native.Nat.{_+_, _<_};
 ghost use lib.ListN.{getD};
-ghost use Rattle.level.specs.Level.{places, levels, currentAt, pushed, popped, dug, steppedAt, endedAt};
+ghost use Rattle.level.specs.Level.{places, levels, currentAt, pushed, popped, dug, steppedAt, endedAt, placeAt, StaysAt, passedAt};
+ghost use Rattle.index.specs.Index.{Within};
 
 pub const WALKS: usize = 16;
 
@@ -93,4 +94,43 @@ pub fn step(
     let n = nodes[k];
     let u = used_of(used, NodeNo(n));
     index::finished(back, u, j)
+}
+
+// ---- so many steps at once
+
+// The cell of its node that level k is at.
+pub fn place(indices: &[i32; PLACES], k: usize) -> u32
+    requires { ⌜ k < places ⌝ }
+    ensures { λ r. ⌜ r ≡ placeAt (now (indices .entry)) k ⌝ }
+{
+    let i = indices[k];
+    index::place(i)
+}
+
+// How many steps of level k stay in its node.
+pub fn staying(
+    used: &[u8],
+    nodes: &[u32; PLACES],
+    indices: &[i32; PLACES],
+    back: bool,
+    k: usize,
+) -> u32
+    requires { ⌜ k < places ⌝ }
+    ensures { λ r. ⌜ (0 < r → StaysAt (now (used .entry)) back (levels (now (nodes .entry)) (now (indices .entry))) k r) ⌝ }
+{
+    let i = indices[k];
+    let n = nodes[k];
+    let u = used_of(used, NodeNo(n));
+    index::staying(back, u, i)
+}
+
+// Moves level k by m steps that stay in its node.
+pub fn pass(indices: &mut [i32; PLACES], back: bool, k: usize, m: u32)
+    requires place { ⌜ k < places ⌝ }
+    requires stays { ⌜ Within back (placeAt (now indices) k) m ⌝ }
+    ensures { λ _. ⌜ now (indices .exit) ≡ passedAt back (now (indices .entry)) k m ⌝ }
+{
+    let i = place(indices, k);
+    let e = index::along(back, i, m);
+    indices[k] = index::at(e);
 }

@@ -49,7 +49,7 @@ taken-fits : (ns : List ℕ) (n : ℕ) (b : Bool) → Walkable ns n → takenAt 
 taken-fits ns n true q = omega (arith, q .taken, q .legal .length)
 taken-fits ns n false q = omega (arith, q .taken, q .legal .length)
 
-number-place : (n s : ℕ) (b : Bool) → s ≡ bit b → walkNumbers * n + 4 + s ≡ walkNumbers * n + (4 + bit b)
+pub number-place : (n s : ℕ) (b : Bool) → s ≡ bit b → walkNumbers * n + 4 + s ≡ walkNumbers * n + (4 + bit b)
 number-place n s b e = omega arith
 
 pub count-fits : (ns : List ℕ) (n s : ℕ) (b : Bool) → s ≡ bit b → Walkable ns n → Fits w32 (getD ns (walkNumbers * n + 4 + s) 0 + 1)

@@ -1,18 +1,20 @@
 -- What the code does to the three lists that hold the walk records.
+use mathlib.Core.Path.{_≡_}
 use mathlib.Core.Bool.{Bool, cond}
 use mathlib.Core.List.{List}
-use Prim.Native.Nat.{ℕ, zero, suc, _+_, _*_, _<_, _≤_}
+use Prim.Native.Nat.{ℕ, zero, suc, _+_, _*_, _^_, _<_, _≤_}
 use lib.Dec.{eqb}
 use lib.ListN.{getD, set}
 use lib.IntN.{ℤ}
-use Rattle.meaning.specs.Limits.{parties, partyWalks, walkLevels, walkNumbers}
+use Rattle.meaning.specs.Limits.{nodeCells, parties, partyWalks, walkLevels, walkNumbers, wordWidth}
 use Rattle.meaning.specs.Counting.{bit}
 use Rattle.meaning.specs.Lent.{VersionRecord, emptyRecord, WalkSlices}
 use Rattle.meaning.specs.Trees.{heightOf}
 use Rattle.shape.specs.Legal.{Legal}
 use Rattle.lookup.specs.declared.Got.{Got}
 use Rattle.lookup.specs.declared.Got.the-variants.{Element, Nothing}
-use Rattle.level.specs.Level.{Levels, levels, popped}
+use Rattle.index.specs.Index.{along, Within}
+use Rattle.level.specs.Level.{Levels, levels, popped, placeAt, passedAt}
 use Rattle.levels.specs.Levels.{Taken, oneTaken}
 
 abbrev pub walks : ℕ
@@ -93,3 +95,25 @@ takenBy cs us b ws n =
     let t = takenOf cs us b ws n in
     let counted = set (ws .numbers) (walkNumbers * n + (4 + bit b)) (takenAt (ws .numbers) n b + 1) in
     cond (isEnded (ws .numbers) n) (stepped ws Nothing) (stepped (slices counted (t .levels .nodes) (t .levels .indices)) (Element (t .element)))
+
+-- ---- so many at once
+
+-- walk n after m elements from an end that are cells of one leaf
+unfoldable pub passedOn : (back : Bool) → WalkSlices → (n m : ℕ) → WalkSlices
+passedOn b ws n m =
+    let counted = set (ws .numbers) (walkNumbers * n + (4 + bit b)) (takenAt (ws .numbers) n b + m) in
+    slices counted (ws .nodes) (passedAt b (ws .indices) (stackAt n b) m)
+
+-- what is stored of that fits
+pub record Passable (back : Bool) (numbers : List ℕ) (indices : List ℤ) (n m : ℕ) : Type 0 where
+  pub walk : n < walks
+  pub counts : takenAt numbers n back + m < 2 ^ wordWidth
+  pub within : Within back (placeAt indices (stackAt n back)) m
+
+-- the next so many elements of walk n from an end are cells of one leaf, from a place on
+pub record Staying (used : List ℕ) (back : Bool) (ws : WalkSlices) (n node place most : ℕ) : Type 0 where
+  pub here : place ≡ placeAt (ws .indices) (stackAt n back)
+  pub passable : Passable back (ws .numbers) (ws .indices) n most
+  pub none : passedOn back ws n 0 ≡ ws
+  pub next : (cells : List ℕ) (m : ℕ) → m < most
+      → takenBy cells used back (passedOn back ws n m) n ≡ stepped (passedOn back ws n (m + 1)) (Element (getD cells (nodeCells * node + along back place m) 0))

@@ -6,12 +6,13 @@ use lookup::Got;
 use records::Version;
 ghost use mathlib.Core.Path.{_≡_};
 ghost use mathlib.Core.Bool.{Bool, true, false};
-ghost use Prim.Native.Nat.{_+_, _*_, _<_, _≤_};
+ghost use Prim.Native.Nat.{ℕ, _+_, _*_, _<_, _≤_};
 ghost use Rattle.meaning.specs.Counting.{bit};
 ghost use Rattle.meaning.specs.Limits.{walkLevels};
 ghost use Rattle.records.specs.Records.{recordOf};
 ghost use Rattle.level.specs.Level.{places, levels};
-ghost use Rattle.walk.specs.Walk.{walks, slices, stored, openRecord, isEnded, versionIn, clearedFrom, closed, Walkable, stepped, takenBy};
+ghost use Rattle.walk.specs.Walk.{walks, slices, stored, openRecord, isEnded, versionIn, clearedFrom, closed, Walkable, numberAt, stepped, takenBy, passedOn, Passable, Staying};
+ghost use mathlib.Core.List.{List};
 
 pub const NUMBERS: usize = 6;
 
@@ -170,4 +171,74 @@ pub fn next_back(
         ≡ takenBy (now (cells .entry)) (now (used .entry)) true (slices (now (numbers .entry)) (now (nodes .entry)) (now (indices .entry))) n ⌝ }
 {
     take(cells, used, numbers, nodes, indices, n, true)
+}
+
+// ---- so many at once
+
+// The cell of a leaf that comes next, and how many elements from there are cells of that leaf.
+pub struct Stretch {
+    pub node: u32,
+    pub place: u32,
+    pub most: u32,
+}
+
+fn least(a: u32, b: u32) -> u32
+    ensures { λ r. ⌜ (r ≤ a) × (r ≤ b) ⌝ }
+{
+    if a < b {
+        return a;
+    }
+    b
+}
+
+// How many elements are not taken yet; none where the stack of that end does not stand yet.
+fn left(numbers: &[u32; ROOM], n: u32, s: usize) -> u32
+    requires walk { ⌜ Walkable (now numbers) n ⌝ }
+    requires side { ⌜ s ≤ 1 ⌝ }
+    ensures { λ r. ⌜ (numberAt (now (numbers .entry)) n 4 + numberAt (now (numbers .entry)) n 5 + r ≤ numberAt (now (numbers .entry)) n 3)
+        × (0 < r → 0 < numberAt (now (numbers .entry)) n (4 + s)) ⌝ }
+{
+    let at = NUMBERS * (n as usize);
+    if numbers[at + (4 + s)] == 0 {
+        return 0;
+    }
+    numbers[at + 3] - (numbers[at + 4] + numbers[at + 5])
+}
+
+// How far the next elements from an end are cells of one leaf.
+pub fn stretch_in_leaf(
+    used: &[u8],
+    numbers: &[u32; ROOM],
+    nodes: &[u32; PLACES],
+    indices: &[i32; PLACES],
+    n: u32,
+    back: bool,
+) -> Stretch
+    requires { ⌜ Walkable (now numbers) n ⌝ }
+    ensures { λ r. ⌜ (0 < r .most → Staying (now (used .entry)) back (slices (now (numbers .entry)) (now (nodes .entry)) (now (indices .entry))) n (r .node) (r .place) (r .most)) ⌝ }
+{
+    let s = side(back);
+    let k = LEVELS * (2 * (n as usize) + s);
+    let stay = level::staying(used, nodes, indices, back, k);
+    let rest = left(numbers, n, s);
+    let most = least(stay, rest);
+    let place = level::place(indices, k);
+    let node = nodes[k];
+    Stretch {
+        node: node,
+        place: place,
+        most: most,
+    }
+}
+
+// Takes m elements that are cells of one leaf.
+pub fn pass_on(numbers: &mut [u32; ROOM], indices: &mut [i32; PLACES], n: u32, back: bool, m: u32)
+    requires { ⌜ Passable back (now numbers) (now indices) n m ⌝ }
+    ensures { λ _. ⌜ ((nodes : List ℕ) → slices (now (numbers .exit)) nodes (now (indices .exit)) ≡ passedOn back (slices (now (numbers .entry)) nodes (now (indices .entry))) n m) ⌝ }
+{
+    let s = side(back);
+    let at = NUMBERS * (n as usize) + 4 + s;
+    let taken = numbers[at] + m;
+    numbers[at] = taken;
+    level::pass(indices, back, LEVELS * (2 * (n as usize) + s), m);
 }
