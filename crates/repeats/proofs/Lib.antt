@@ -1,1 +1,2 @@
 pub mod Repeating
+pub mod Together

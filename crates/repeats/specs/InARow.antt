@@ -4,15 +4,17 @@ use mathlib.Core.Bool.{Bool, true, _&&_}
 use mathlib.Core.List.{List}
 use Prim.Native.Nat.{ℕ, zero, suc, _+_, _-_, _*_, _≤_, _<_}
 use lib.Dec.{ltb, eqb}
-use lib.ListN.{length, take, drop}
-use Rattle.meaning.specs.Limits.{frameSize, answerSize}
+use lib.ListN.{length, getD, take, drop}
+use Rattle.meaning.specs.Limits.{nodeCells, frameSize, answerSize}
 use Rattle.meaning.specs.Lent.{WalkSlices}
 use Rattle.meaning.specs.Trees.{heightOf}
 use Rattle.meaning.specs.Frames.{Frame, decode, encode}
 use Rattle.records.specs.Records.{recordOf}
 use Rattle.records.specs.declared.Version.{Version}
 use Rattle.lookup.specs.Lookup.{elementIn}
+use Rattle.index.specs.Index.{along}
 use Rattle.walk.specs.Walk.{takenBy}
+use Rattle.walk.specs.declared.Stretch.{Stretch}
 use Rattle.requests.specs.Requests.{put}
 use Rattle.requests.specs.Numbers.{GET}
 use Rattle.edits.specs.Edits.{valued}
@@ -76,3 +78,15 @@ afterSteps cells used back n w k (suc m) =
 pub record Steps (cells used : List ℕ) (party operation walk : ℕ) (back : Bool) (n : ℕ) (w after : Walked) (requests : List ℕ) (k count end : ℕ) : Type 0 where
   pub row : InARow (isStep party operation walk) requests k count end
   pub steps : after ≡ afterSteps cells used back n w k (end - k)
+
+-- the room after so many answers by cells of one leaf, from the kth frame on
+unfoldable pub afterCells : (cells : List ℕ) → (back : Bool) → Stretch → (room : List ℕ) → (k count : ℕ) → List ℕ
+afterCells cells back s room k zero = room
+afterCells cells back s room k (suc m) =
+    let x = getD cells (nodeCells * s .node + along back (s .place) m) 0 in
+    put (afterCells cells back s room k m) (answerSize * (k + m)) (encode (valued x))
+
+pub record StepsInLeaf (cells : List ℕ) (party operation walk : ℕ) (back : Bool) (s : Stretch) (requests room roomAfter : List ℕ) (k count end : ℕ) : Type 0 where
+  pub row : InARow (isStep party operation walk) requests k count end
+  pub stay : end - k ≤ s .most
+  pub answers : roomAfter ≡ afterCells cells back s room k (end - k)

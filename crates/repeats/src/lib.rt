@@ -1,4 +1,6 @@
 // Frames of one kind in a row, answered by loops that look nothing up again: gets from one slot, and steps of one walk.
+mod leaf;
+
 use level::PLACES;
 use lookup::Got;
 use records::NodeNo;
@@ -20,7 +22,7 @@ ghost use lib.Dec.{eqb};
 ghost use Rattle.requests.specs.Requests.{frameOf, answerOf};
 ghost use Rattle.requests.specs.Numbers.{NEXT-BACK};
 ghost use Rattle.calls.specs.Walks as calls;
-ghost use Rattle.repeats.specs.InARow.{Roomy, isGet, Gets, isStep, walked, Steps};
+ghost use Rattle.repeats.specs.InARow.{Roomy, isGet, Gets, walked, Steps};
 
 const FRAME_SIZE: usize = 12;
 
@@ -101,12 +103,6 @@ pub fn gets(
 
 // ---- steps
 
-fn is_step(f: Frame, party: u8, operation: u8, walk: u8) -> bool
-    ensures { λ r. ⌜ r ≡ isStep party operation walk (frameOf f) ⌝ }
-{
-    (f.party == party) & (f.operation == operation) & (f.slot == walk)
-}
-
 fn answer_of(g: Got) -> Answer
     ensures { λ r. ⌜ answerOf r ≡ calls.answerOf g ⌝ }
 {
@@ -151,13 +147,28 @@ pub fn steps(
     let mut j = k;
     while j < count {
         let f = requests::frame_at(requests, FRAME_SIZE * j);
-        if !is_step(f, party, operation, walk) {
+        if !leaf::is_step(f, party, operation, walk) {
             return j;
         }
         let g = walk::take(cells, used, numbers, nodes, indices, n, back);
         let answer = answer_of(g);
         requests::put_answer(room, ANSWER_SIZE * j, answer);
-        j += 1;
+        j = leaf::steps_in_leaf(
+            cells,
+            used,
+            numbers,
+            nodes,
+            indices,
+            party,
+            operation,
+            walk,
+            n,
+            back,
+            requests,
+            room,
+            j + 1,
+            count,
+        );
     }
     j
 }

@@ -6,20 +6,16 @@ use Rattle.calls.specs.Walks.{answerOf}
 use Rattle.repeats.proofs.answer_of.Statement.{statement}
 use Rattle.repeats.proofs.answer_of.Tie as tie
 
--- src/lib.rt:114:22
 enum-known-g : tie.Need-enum-known-g
 enum-known-g c = search needs
 
--- src/lib.rt:119:25
 enum-told : tie.Need-enum-told
 enum-told c = search needs
 
--- src/lib.rt:110:1
 returns : tie.Need-returns
 unfolding answerOf refused
 returns c = ap answerOf (sym (c .before .g .given .1))
 
--- src/lib.rt:110:1
 returns-2 : tie.Need-returns-2
 unfolding answerOf refused
 returns-2 c = ap answerOf (sym (c .enum-told .given .1))

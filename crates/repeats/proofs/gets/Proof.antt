@@ -20,75 +20,57 @@ Inv-loop cells party slot v requests room₀ k count h root before₀ leaf₀ j�
 abbrev μ-loop : tie.MeasureT-loop
 μ-loop cells party slot v requests room₀ k count h root before₀ leaf₀ j₀ room before leaf j = count - j
 
--- src/lib.rt:77:9
 height-requires : tie.Need-height-requires Inv-loop μ-loop
 height-requires c κs = c .before .before .before .pre .0
 
--- src/lib.rt:80:9
 leaf-requires : tie.Need-leaf-requires Inv-loop μ-loop
 leaf-requires c κs = (c .before .before .before .before .pre .0 .bits, omega (arith, c .height .ensures .1 .1))
 
--- src/lib.rt:82:5
 loop-holds : tie.Need-loop-holds Inv-loop μ-loop
 loop-holds c = (row-begins _ _ _ _ (c .before .before .before .before .before .pre .1 .far), gets-begin _ _ _ _ _, refl, c .leaf .ensures)
 
--- src/lib.rt:83:46
 mul-frame-at : tie.Need-mul-frame-at Inv-loop μ-loop
 mul-frame-at c = omega (arith, c .before .before .before .before .before .before .before .pre .1 .asked, c .before .before .before .before .before .before .before .good, c .loop-test .taken)
 
--- src/lib.rt:83:13
 frame-at-requires : tie.Need-frame-at-requires Inv-loop μ-loop
 frame-at-requires c κs = omega (arith, c .before .before .before .before .before .before .before .pre .1 .asked, c .loop-test .taken)
 
--- src/lib.rt:84:13
 is-get-requires : tie.Need-is-get-requires Inv-loop μ-loop
 is-get-requires c κs = tt
 
--- src/lib.rt:85:13
 same-length : tie.Need-same-length Inv-loop μ-loop
 same-length c = c .before .before .before .before .loop .inv .2
 
--- src/lib.rt:85:13
 returns : tie.Need-returns Inv-loop μ-loop
 returns c = record { row = c .before .before .before .before .loop .inv .0; answers = c .before .before .before .before .loop .inv .1 }
 
--- src/lib.rt:87:9
 leaf-again-requires : tie.Need-leaf-again-requires Inv-loop μ-loop
 leaf-again-requires c κs = (c .before .before .before .before .before .before .before .before .before .before .pre .0 .bits, (omega (arith, c .before .before .before .before .before .before .height .ensures .1 .1), c .before .before .before .before .loop .inv .3))
 
--- src/lib.rt:89:13
 bucket-requires : tie.Need-bucket-requires Inv-loop μ-loop
 bucket-requires c κs = (c .before .before .before .before .before .before .before .before .before .before .before .pre .0 .bits, omega arith)
 
--- src/lib.rt:90:13
 cell-at-requires : tie.Need-cell-at-requires Inv-loop μ-loop
 cell-at-requires c κs = tt
 
--- src/lib.rt:96:36
 mul-put-answer : tie.Need-mul-put-answer Inv-loop μ-loop
 mul-put-answer c = omega (arith, c .before .before .before .before .before .before .before .before .before .before .before .before .before .before .pre .1 .asked, c .before .before .before .before .before .before .before .before .before .before .before .before .before .before .good, c .before .before .before .before .before .before .before .loop-test .taken)
 
--- src/lib.rt:96:9
 put-answer-requires : tie.Need-put-answer-requires Inv-loop μ-loop
 put-answer-requires c κs = omega (arith, c .before .before .before .before .before .before .before .before .before .before .before .before .before .before .pre .1 .fits, c .before .before .before .before .before .before .before .loop-test .taken, c .before .before .before .before .before .before .before .before .loop .inv .2)
 
--- src/lib.rt:97:9
 add-j : tie.Need-add-j Inv-loop μ-loop
 add-j c = omega (arith, c .before .before .before .before .before .before .before .before .before .before .before .before .before .before .before .before .before .fits .count, c .before .before .before .before .before .before .before .before .before .before .loop-test .taken)
 
--- src/lib.rt:82:5
 loop-less : tie.Need-loop-less Inv-loop μ-loop
 loop-less c = omega (arith, c .before .before .before .before .before .before .before .before .before .before .loop-test .taken)
 
--- src/lib.rt:82:5
 loop-again : tie.Need-loop-again Inv-loop μ-loop
 loop-again c = (row-goes-on _ _ _ _ (c .before .before .before .before .before .before .before .before .before .before .before .loop .j) (frameOf (c .before .before .before .before .before .before .before .before .before .frame-at .result)) _ (c .before .before .before .before .before .before .before .before .before .before .before .loop .inv .0) (c .before .before .before .before .before .before .before .before .before .before .loop-test .taken) (c .before .before .before .before .before .before .before .before .before .frame-at .ensures) (c .before .before .before .before .before .before .before .before .is-get .ensures) (c .before .before .before .before .before .before .before .if1 .left), gets-go-on _ (c .before .before .before .before .before .before .before .before .before .before .before .before .before .before .before .before .before .args .v) _ _ _ (c .before .before .before .before .before .before .before .before .before .before .before .loop .j) _ (frameOf (c .before .before .before .before .before .before .before .before .before .frame-at .result)) _ _ (c .before .before .before .before .before .before .before .before .before .before .before .loop .inv .0 .from) (c .before .before .before .before .before .before .before .before .before .before .before .loop .inv .1) (c .before .before .before .before .before .before .before .before .before .frame-at .ensures) (element-found (c .before .before .before .before .before .before .before .before .before .before .before .before .before .before .before .before .before .args .cells .now) (c .before .before .before .before .before .before .before .before .before .before .before .before .before .before .before .before .before .args .v .bits) (c .before .before .before .before .before .before .before .before .before .frame-at .result .index) _ (c .before .before .before .before .before .before .before .before .before .before .before .before .before .before .before .before .before .args .v .root) _ _ _ (c .before .before .before .before .before .before .leaf-again .ensures) (c .before .before .before .before .before .bucket .ensures .0) (c .before .before .before .before .cell-at .ensures) ∙ ap (λ (h : ℕ). elementIn (c .before .before .before .before .before .before .before .before .before .before .before .before .before .before .before .before .before .args .cells .now) (c .before .before .before .before .before .before .before .before .before .before .before .before .before .before .before .before .before .args .v .bits) h (c .before .before .before .before .before .before .before .before .before .before .before .before .before .before .before .before .before .args .v .root) (c .before .before .before .before .before .before .before .before .before .frame-at .result .index)) (c .before .before .before .before .before .before .before .before .before .before .before .before .before .height .ensures .0)) (c .before .before .put-answer .ensures), c .before .before .put-answer .kept .0 ∙ c .before .before .before .before .before .before .before .before .before .before .before .loop .inv .2, c .before .before .before .before .before .before .leaf-again .ensures)
 
--- src/lib.rt:63:1
 same-length-2 : tie.Need-same-length-2 Inv-loop μ-loop
 same-length-2 c = c .before .loop .inv .2
 
--- src/lib.rt:63:1
 returns-2 : tie.Need-returns-2 Inv-loop μ-loop
 returns-2 c = record { row = c .before .loop .inv .0; answers = c .before .loop .inv .1 }
 

@@ -4,23 +4,18 @@ use Rattle.lookup.proofs.Found.{leaf-same}
 use Rattle.repeats.proofs.leaf_again.Statement.{statement}
 use Rattle.repeats.proofs.leaf_again.Tie as tie
 
--- src/lib.rt:56:8
 shr-if1 : tie.Need-shr-if1
 shr-if1 c = search needs
 
--- src/lib.rt:56:25
 shr-if1-2 : tie.Need-shr-if1-2
 shr-if1-2 c = search needs
 
--- src/lib.rt:57:9
 returns : tie.Need-returns
 returns c = c .before .before .pre .1 .1 ∙ leaf-same _ _ _ _ _ _ (sym (c .if1 .taken))
 
--- src/lib.rt:59:5
 leaf-requires : tie.Need-leaf-requires
 leaf-requires c κs = search needs
 
--- src/lib.rt:42:1
 returns-2 : tie.Need-returns-2
 returns-2 c = search needs
 
