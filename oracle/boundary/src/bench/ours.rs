@@ -1,7 +1,7 @@
 //! Our side: frames made beforehand, sent in batches, their answers read.
 
 use super::instructions::jumperloft_counted;
-use super::row::{Row, Work, POOL};
+use super::row::{Row, Work};
 use super::runner::{sum_in_order, Runner};
 use crate::ffi;
 use lent::{Lent, SLOTS};
@@ -22,7 +22,7 @@ pub struct Ours {
 
 impl Ours {
     pub fn new(row: Row) -> Ours {
-        let mut before = Lent::unformed(POOL);
+        let mut before = Lent::unformed(row.pool);
         assert_eq!(ffi::form(&mut before).number, 0);
         let mut room = Vec::new();
         for batch in batches(&row.frames_before(), FRAMES_BEFORE) {

@@ -4,10 +4,10 @@ use super::table::figure;
 use super::Measured;
 use std::fmt::Write;
 
-const WIDTH: f64 = 760.0;
+const WIDTH: f64 = 820.0;
 /// Where the bars' field begins and ends; the names stand left of it.
-const LEFT: f64 = 200.0;
-const RIGHT: f64 = 700.0;
+const LEFT: f64 = 260.0;
+const RIGHT: f64 = 760.0;
 const TOP: f64 = 70.0;
 const BAR: f64 = 14.0;
 const GAP: f64 = 12.0;

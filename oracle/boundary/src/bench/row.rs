@@ -6,7 +6,10 @@ use session::frame::Frame;
 use session::numbers::*;
 use session::rng::Rng;
 
-pub const POOL: usize = 65_536;
+/// The largest pool there is.
+const LARGE: usize = 65_536;
+/// About four times the nodes of a list of the limit with bits 5.
+const SMALL: usize = 4_096;
 /// With bits 1 two lists of the limit leave too few nodes to push by.
 const COMPARED_LENGTH: u32 = LENGTH_LIMIT - 16;
 const COMPARES: u32 = 100;
@@ -42,19 +45,29 @@ pub struct Row {
     pub bits: u32,
     /// How often a batch reads the whole list.
     pub passes: u32,
+    /// Nodes that are lent.
+    pub pool: usize,
 }
 
-/// Each work with bits 5 and with bits 1, reads in long batches and in short ones; forming knows no bits.
+/// Each work with bits 5 and with bits 1, reads in long batches and in short ones; what depends on the audit in a small pool too. Forming knows no bits.
 pub fn rows() -> Vec<Row> {
     let reads = [Forward, Backward, GetsInOrder, GetsAtRandom];
     let others = [Push, Set, Drop, Release, Compare, Audit];
-    let row = |work, bits, passes| Row { work, bits, passes };
-    let long = |work| [5, 1].map(|bits| row(work, bits, PASSES));
-    let short = |work| [5, 1].map(|bits| row(work, bits, 1));
+    let row = |work, bits, passes, pool| Row {
+        work,
+        bits,
+        passes,
+        pool,
+    };
+    let long = |work| [5, 1].map(|bits| row(work, bits, PASSES, LARGE));
+    let short = |work| [5, 1].map(|bits| row(work, bits, 1, LARGE));
+    let small = |work| row(work, 5, 1, SMALL);
     let mut rows: Vec<Row> = reads.into_iter().flat_map(long).collect();
     rows.extend(reads.into_iter().flat_map(short));
+    rows.extend(reads.into_iter().map(small));
     rows.extend(others.into_iter().flat_map(short));
-    rows.push(row(Form, 5, 1));
+    rows.extend([Release, Audit].into_iter().map(small));
+    rows.push(row(Form, 5, 1, LARGE));
     rows
 }
 
@@ -79,12 +92,16 @@ impl Row {
         matches!(self.work, Forward | Backward | GetsInOrder | GetsAtRandom)
     }
 
-    /// The name, and how long the batches are where that differs.
+    /// The name, and how long the batches are and how large the pool is where that differs.
     pub fn label(&self) -> String {
+        let mut label = self.name().to_string();
         if self.reads() && self.passes == 1 {
-            return format!("{}, short", self.name());
+            label += ", short";
         }
-        self.name().to_string()
+        if self.pool == SMALL {
+            label += ", small pool";
+        }
+        label
     }
 
     pub fn title(&self) -> String {
