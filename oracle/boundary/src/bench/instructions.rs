@@ -15,8 +15,8 @@ pub extern "Rust" fn jumperloft_counted(work: &mut dyn FnMut()) {
     work();
 }
 
-/// Our side's empty batches, one before each batch; a name beside those of the sides.
-const AUDITS: &str = "Audits";
+/// Our side's audit, as an empty batch before the batch; a name beside those of the sides.
+const AUDIT: &str = "Audit";
 
 /// Prints the table; answers whether callgrind could count.
 pub fn instructions(choice: Choice) -> bool {
@@ -31,7 +31,7 @@ pub fn instructions(choice: Choice) -> bool {
         counted.push(Counted {
             row,
             ours,
-            audits: of(AUDITS),
+            audit: of(AUDIT),
             original,
             im_rc,
             flat,
@@ -73,8 +73,8 @@ pub fn count(title: &str, side: &str, im_rc: Option<&str>) -> bool {
     let Some(row) = rows().into_iter().find(|row| row.title() == title) else {
         return false;
     };
-    if side == AUDITS {
-        Ours::new(row).audits();
+    if side == AUDIT {
+        Ours::new(row).audit();
         return !row.is_by_call();
     }
     let side = SIDES.into_iter().find(|it| format!("{it:?}") == side);

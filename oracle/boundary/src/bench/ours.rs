@@ -1,4 +1,4 @@
-//! Our side: frames made beforehand, sent in batches, their answers read.
+//! Our side: frames made beforehand, sent as one batch, their answers read.
 
 use super::instructions::jumperloft_counted;
 use super::row::{Row, Work};
@@ -8,14 +8,13 @@ use lent::{Lent, SLOTS};
 use session::frame::Frame;
 
 const ANSWER: usize = 6;
-/// Frames a batch while the state before a run is made.
-const FRAMES_BEFORE: usize = 16_384;
 
 pub struct Ours {
     row: Row,
     before: Lent,
     lent: Lent,
-    batches: Vec<Vec<u8>>,
+    /// None where the row is of forming.
+    batch: Option<Vec<u8>>,
     room: Vec<u8>,
     answered: u64,
 }
@@ -25,31 +24,23 @@ impl Ours {
         let mut before = Lent::unformed(row.pool);
         assert_eq!(ffi::form(&mut before).number, 0);
         let mut room = Vec::new();
-        for batch in batches(&row.frames_before(), FRAMES_BEFORE) {
-            send(&mut before, &batch, &mut room);
-        }
-        let batches = match row.work {
-            Work::Audit => vec![Vec::new()],
-            _ => batches(&row.frames(), row.frames_a_batch().max(1)),
-        };
+        send(&mut before, &bytes(&row.frames_before()), &mut room);
+        let batch = (row.work != Work::Form).then(|| bytes(&row.frames()));
         Ours {
             row,
             lent: before.clone(),
             before,
-            batches,
+            batch,
             room,
             answered: 0,
         }
     }
 
-    /// Counts what the audits of one run take: an empty batch before each batch.
-    pub fn audits(&mut self) {
-        for batch in &self.batches {
-            jumperloft_counted(&mut || {
-                send(&mut self.lent, &[], &mut self.room);
-            });
-            send(&mut self.lent, batch, &mut self.room);
-        }
+    /// Counts what the audit of one run takes, as an empty batch before it.
+    pub fn audit(&mut self) {
+        jumperloft_counted(&mut || {
+            send(&mut self.lent, &[], &mut self.room);
+        });
     }
 }
 
@@ -64,9 +55,8 @@ impl Runner for Ours {
         if self.row.work == Work::Form {
             assert_eq!(ffi::form(&mut self.lent).number, 0);
         }
-        self.answered = 0;
-        for batch in &self.batches {
-            self.answered += send(&mut self.lent, batch, &mut self.room);
+        if let Some(batch) = &self.batch {
+            self.answered = send(&mut self.lent, batch, &mut self.room);
         }
     }
 
@@ -81,9 +71,8 @@ impl Runner for Ours {
     }
 }
 
-fn batches(frames: &[Frame], frames_a_batch: usize) -> Vec<Vec<u8>> {
-    let bytes = |frames: &[Frame]| frames.iter().flat_map(Frame::bytes).collect();
-    frames.chunks(frames_a_batch).map(bytes).collect()
+fn bytes(frames: &[Frame]) -> Vec<u8> {
+    frames.iter().flat_map(Frame::bytes).collect()
 }
 
 /// Adds up the values answered; every frame must be done.

@@ -13,7 +13,6 @@ const SMALL: usize = 4_096;
 /// With bits 1 two lists of the limit leave too few nodes to push by.
 const COMPARED_LENGTH: u32 = LENGTH_LIMIT - 16;
 const COMPARES: u32 = 100;
-const FRAMES_OF_EDITS: usize = 16_384;
 /// Of a long batch of reads.
 const PASSES: u32 = 32;
 const SEED: u64 = 1;
@@ -142,13 +141,6 @@ impl Row {
         let mut rng = Rng::new(SEED);
         let mut pick = || (rng.below(self.length() as usize) as u32, rng.word());
         (0..self.length()).map(|_| pick()).collect()
-    }
-
-    pub fn frames_a_batch(&self) -> usize {
-        match self.work {
-            Push | Set | Drop => FRAMES_OF_EDITS,
-            _ => self.frames().len(),
-        }
     }
 
     /// Frames that lead to the state before the run.

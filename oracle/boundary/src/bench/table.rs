@@ -18,7 +18,7 @@ pub fn table(measured: &[Measured]) -> String {
         let cell = |times: Option<Times>| times.map_or(String::new(), |times| figures(row, times));
         let batch = match row.work {
             Work::Form => String::new(),
-            _ => grouped(row.frames_a_batch() as f64),
+            _ => grouped(row.frames().len() as f64),
         };
         let cells = [
             row.label(),
@@ -40,7 +40,7 @@ pub fn table(measured: &[Measured]) -> String {
 pub struct Counted {
     pub row: Row,
     pub ours: f64,
-    pub audits: Option<f64>,
+    pub audit: Option<f64>,
     pub original: Option<f64>,
     pub im_rc: Option<f64>,
     pub flat: Option<f64>,
@@ -60,7 +60,7 @@ pub fn instructions_table(counted: &[Counted]) -> String {
             row.label(),
             bits(row),
             each(line.ours),
-            cell(line.audits),
+            cell(line.audit),
             cell(line.original),
             cell(line.im_rc),
             cell(line.flat),
