@@ -10,6 +10,8 @@ use session::state::State;
 
 /// Frames that go on after a list has its length.
 const PUSHES_BEYOND: usize = 12;
+/// The most reads of one kind in a row: more than a leaf has.
+const ROW: usize = 80;
 const EDITS: [u8; 9] = [
     SET, PUSH_BACK, SET, PUSH_BACK, DROP_LAST, CLONE, HAND_OVER, NEW, FREE_NODES,
 ];
@@ -45,6 +47,8 @@ pub struct Author {
     planned: Vec<Phase>,
     /// Parties that do nothing else while lists grow.
     growing: Vec<u8>,
+    /// A read, and how many of its kind are to follow.
+    row: Option<(Frame, usize)>,
 }
 
 impl Author {
@@ -56,6 +60,7 @@ impl Author {
             longest,
             planned: Vec::new(),
             growing: Vec::new(),
+            row: None,
         }
     }
 
@@ -74,6 +79,44 @@ impl Author {
     }
 
     pub fn frame(&mut self, state: &State) -> Frame {
+        if let Some(frame) = self.row_frame(state) {
+            return frame;
+        }
+        let frame = self.phase_frame(state);
+        if self.rng.one_in(4) {
+            self.row = Some((frame, self.rng.below(ROW)));
+        }
+        frame
+    }
+
+    /// The same slot or walk again, while it is there: in order and once beyond the end, or any index; anything in the fields that a read doesn't use.
+    fn row_frame(&mut self, state: &State) -> Option<Frame> {
+        let (mut frame, left) = self.row.take().filter(|(_, left)| *left > 0)?;
+        let party = (frame.party < PARTIES).then_some(frame.party)?;
+        let (slots, walks) = (
+            choice::slots(state, party, true),
+            choice::walks(state, party, true),
+        );
+        let rng = &mut self.rng;
+        match frame.operation {
+            GET if slots.contains(&frame.slot) => {
+                let after = frame.index.wrapping_add(1);
+                let end = choice::length(state, party, frame.slot) + 1;
+                frame.index = if rng.one_in(6) { rng.word() } else { after } % end;
+            }
+            // not long, as most walks are short
+            NEXT | NEXT_BACK if walks.contains(&frame.slot) && !rng.one_in(10) => {
+                frame.index = rng.word();
+            }
+            _ => return None,
+        }
+        frame.destination = rng.byte();
+        frame.value = rng.word();
+        self.row = Some((frame, left - 1));
+        Some(frame)
+    }
+
+    fn phase_frame(&mut self, state: &State) -> Frame {
         if self.left == 0 {
             self.next_phase();
         }
