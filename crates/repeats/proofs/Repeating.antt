@@ -25,7 +25,7 @@ use Rattle.walk.specs.Walk.{numberAt, isEnded, Walkable, takenBy}
 use Rattle.requests.specs.Requests.{put}
 use Rattle.edits.specs.Edits.{valued}
 use Rattle.calls.specs.Walks.{answerOf}
-use Rattle.repeats.specs.InARow.{frameIn, InARow, afterGets, walked, afterSteps, Walked}
+use Rattle.repeats.specs.InARow.{frameIn, InARow, Stops, afterGets, walked, afterSteps, Walked}
 
 -- ---- the row
 
@@ -43,6 +43,17 @@ module _ (kind : Frame → Bool) (requests : List ℕ) (k count : ℕ) where
       pick : (i : ℕ) → k ≤ i → i < j + 1 → Dec (i < j) → kind (frameIn requests i) ≡ true
       pick i a c (yes d) = row .all i a d
       pick i a c (no n) = let here : i ≡ j = omega arith in ap (λ (m : ℕ). kind (frameIn requests m)) here ∙ (ap kind (sym e) ∙ (sym h ∙ was b t))
+
+module _ (kind : Frame → Bool) (requests : List ℕ) (count : ℕ) where
+  pub row-stops : (j : ℕ) (f : Frame) (b : Bool) → f ≡ frameIn requests j → b ≡ kind f → not b ≡ true → Stops kind requests count j
+  row-stops j f b e h t l = ap kind (sym e) ∙ (sym h ∙ was b t)
+    where
+      was : (c : Bool) → not c ≡ true → c ≡ false
+      was false q = refl
+      was true q = absurd (false≢true q)
+
+  pub row-over : (j : ℕ) → count ≤ j → Stops kind requests count j
+  row-over j l m = absurd (lt-irrefl 0 (omega arith))
 
 -- ---- gets
 

@@ -1,6 +1,6 @@
 -- Frames of one kind in a row: gets of elements that are there, from one slot, and steps of one walk from one end.
 use mathlib.Core.Path.{_≡_}
-use mathlib.Core.Bool.{Bool, true, _&&_}
+use mathlib.Core.Bool.{Bool, true, false, _&&_}
 use mathlib.Core.List.{List}
 use Prim.Native.Nat.{ℕ, zero, suc, _+_, _-_, _*_, _≤_, _<_}
 use lib.Dec.{ltb, eqb}
@@ -35,6 +35,10 @@ pub record InARow (kind : Frame → Bool) (requests : List ℕ) (k count end : �
   pub from : k ≤ end
   pub to : end ≤ count
   pub all : (i : ℕ) → k ≤ i → i < end → kind (frameIn requests i) ≡ true
+
+-- and what comes behind them, if anything, is not
+abbrev pub Stops : (kind : Frame → Bool) → (requests : List ℕ) → (count end : ℕ) → Type 0
+Stops kind requests count end = end < count → kind (frameIn requests end) ≡ false
 
 -- ---- gets
 

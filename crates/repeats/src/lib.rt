@@ -22,7 +22,7 @@ ghost use lib.Dec.{eqb};
 ghost use Rattle.requests.specs.Requests.{frameOf, answerOf};
 ghost use Rattle.requests.specs.Numbers.{NEXT-BACK};
 ghost use Rattle.calls.specs.Walks as calls;
-ghost use Rattle.repeats.specs.InARow.{Roomy, isGet, Gets, walked, Steps};
+ghost use Rattle.repeats.specs.InARow.{Roomy, isGet, Gets, walked, Steps, Stops, isStep};
 
 const FRAME_SIZE: usize = 12;
 
@@ -75,6 +75,7 @@ pub fn gets(
     requires legal { ⌜ Legal (v .bits) (v .length) ⌝ }
     requires room { ⌜ Roomy (now requests) (now room) k count ⌝ }
     ensures { λ r. ⌜ Gets (now (cells .entry)) party slot v (now (requests .entry)) (now (room .entry)) (now (room .exit)) k count r ⌝ }
+    ensures stops { λ r. ⌜ Stops (isGet party slot (v .length)) (now (requests .entry)) count r ⌝ }
 {
     let h = shape::height(v.bits, v.length);
     let root = NodeNo(v.root);
@@ -142,6 +143,7 @@ pub fn steps(
         (walked (slices (now (numbers .entry)) (now (nodes .entry)) (now (indices .entry))) (now (room .entry)))
         (walked (slices (now (numbers .exit)) (now (nodes .exit)) (now (indices .exit))) (now (room .exit)))
         (now (requests .entry)) k count r ⌝ }
+    ensures stops { λ r. ⌜ Stops (isStep party operation walk) (now (requests .entry)) count r ⌝ }
 {
     let back = operation == operations::NEXT_BACK;
     let mut j = k;

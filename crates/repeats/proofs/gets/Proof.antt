@@ -6,7 +6,7 @@ use Rattle.lookup.specs.Lookup.{leafIn, elementIn}
 use Rattle.lookup.proofs.Found.{element-found}
 use Rattle.requests.specs.Requests.{frameOf}
 use Rattle.repeats.specs.InARow.{InARow, isGet, afterGets}
-use Rattle.repeats.proofs.Repeating.{row-begins, row-goes-on, gets-begin, gets-go-on}
+use Rattle.repeats.proofs.Repeating.{row-begins, row-goes-on, row-stops, row-over, gets-begin, gets-go-on}
 use Rattle.repeats.proofs.gets.Statement.{statement}
 use Rattle.repeats.proofs.gets.Tie as tie
 
@@ -42,7 +42,7 @@ same-length : tie.Need-same-length Inv-loop μ-loop
 same-length c = c .before .before .before .before .loop .inv .2
 
 returns : tie.Need-returns Inv-loop μ-loop
-returns c = record { row = c .before .before .before .before .loop .inv .0; answers = c .before .before .before .before .loop .inv .1 }
+returns c = (record { row = c .before .before .before .before .loop .inv .0; answers = c .before .before .before .before .loop .inv .1 }, row-stops (isGet (c .before .before .before .before .before .before .before .before .before .before .args .party) (c .before .before .before .before .before .before .before .before .before .before .args .slot) (c .before .before .before .before .before .before .before .before .before .before .args .v .length)) (c .before .before .before .before .before .before .before .before .before .before .args .requests .now) (c .before .before .before .before .before .before .before .before .before .before .args .count) (c .before .before .before .before .loop .j) (frameOf (c .before .before .frame-at .result)) _ (c .before .before .frame-at .ensures) (c .before .is-get .ensures) (c .if1 .taken))
 
 leaf-again-requires : tie.Need-leaf-again-requires Inv-loop μ-loop
 leaf-again-requires c κs = (c .before .before .before .before .before .before .before .before .before .before .pre .0 .bits, (omega (arith, c .before .before .before .before .before .before .height .ensures .1 .1), c .before .before .before .before .loop .inv .3))
@@ -72,7 +72,7 @@ same-length-2 : tie.Need-same-length-2 Inv-loop μ-loop
 same-length-2 c = c .before .loop .inv .2
 
 returns-2 : tie.Need-returns-2 Inv-loop μ-loop
-returns-2 c = record { row = c .before .loop .inv .0; answers = c .before .loop .inv .1 }
+returns-2 c = (record { row = c .before .loop .inv .0; answers = c .before .loop .inv .1 }, row-over (isGet (c .before .before .before .before .before .before .before .args .party) (c .before .before .before .before .before .before .before .args .slot) (c .before .before .before .before .before .before .before .args .v .length)) (c .before .before .before .before .before .before .before .args .requests .now) (c .before .before .before .before .before .before .before .args .count) (c .before .loop .j) (c .loop-test .left))
 
 pub gets-spec : {M : Type 1} → statement M
 gets-spec =

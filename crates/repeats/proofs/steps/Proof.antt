@@ -5,7 +5,7 @@ use lib.ListN.{length}
 use Rattle.walk.specs.Walk.{slices, Walkable}
 use Rattle.requests.specs.Requests.{frameOf}
 use Rattle.repeats.specs.InARow.{InARow, isStep, walked, afterSteps}
-use Rattle.repeats.proofs.Repeating.{row-begins, row-goes-on, steps-begin, steps-go-on, walkable-on}
+use Rattle.repeats.proofs.Repeating.{row-begins, row-goes-on, row-stops, row-over, steps-begin, steps-go-on, walkable-on}
 use Rattle.repeats.proofs.Together.{row-joins, steps-join, walkable-still}
 use Rattle.repeats.proofs.steps.Statement.{statement}
 use Rattle.repeats.proofs.steps.Tie as tie
@@ -36,7 +36,7 @@ same-length : tie.Need-same-length Inv-loop μ-loop
 same-length c = c .before .before .before .before .loop .inv .2
 
 returns : tie.Need-returns Inv-loop μ-loop
-returns c = record { row = c .before .before .before .before .loop .inv .0; steps = c .before .before .before .before .loop .inv .1 }
+returns c = (record { row = c .before .before .before .before .loop .inv .0; steps = c .before .before .before .before .loop .inv .1 }, row-stops (isStep (c .before .before .before .before .before .before .before .before .before .args .party) (c .before .before .before .before .before .before .before .before .before .args .operation) (c .before .before .before .before .before .before .before .before .before .args .walk)) (c .before .before .before .before .before .before .before .before .before .args .requests .now) (c .before .before .before .before .before .before .before .before .before .args .count) (c .before .before .before .before .loop .j) (frameOf (c .before .before .frame-at .result)) _ (c .before .before .frame-at .ensures) (c .before .is-step .ensures) (c .if1 .taken))
 
 take-requires : tie.Need-take-requires Inv-loop μ-loop
 take-requires c κs = c .before .before .before .before .before .before .before .loop .inv .3
@@ -66,7 +66,7 @@ same-length-2 : tie.Need-same-length-2 Inv-loop μ-loop
 same-length-2 c = c .before .loop .inv .2
 
 returns-2 : tie.Need-returns-2 Inv-loop μ-loop
-returns-2 c = record { row = c .before .loop .inv .0; steps = c .before .loop .inv .1 }
+returns-2 c = (record { row = c .before .loop .inv .0; steps = c .before .loop .inv .1 }, row-over (isStep (c .before .before .before .before .before .before .args .party) (c .before .before .before .before .before .before .args .operation) (c .before .before .before .before .before .before .args .walk)) (c .before .before .before .before .before .before .args .requests .now) (c .before .before .before .before .before .before .args .count) (c .before .loop .j) (c .loop-test .left))
 
 pub steps-spec : {M : Type 1} → statement M
 steps-spec =

@@ -22,7 +22,7 @@ same-length c = search needs
 
 -- src/lib.rt:121:9
 returns : tie.Need-returns
-returns c = repeats-gets _ (frameOf (c .before .before .before .before .before .before .before .before .before .before .before .before .before .args .f)) (c .before .before .before .before .before .before .before .before .before .before .before .before .before .args .v) _ _ _ _ (c .before .before .before .before .before .before .before .before .before .before .before .before .before .pre) _ (c .before .before .before .before .before .before .before .is-slot .ensures) (c .before .before .before .before .if1 .taken) _ _ _ _ (c .before .before .gets .ensures)
+returns c = repeats-gets _ (frameOf (c .before .before .before .before .before .before .before .before .before .before .before .before .before .args .f)) (c .before .before .before .before .before .before .before .before .before .before .before .before .before .args .v) _ _ _ _ (c .before .before .before .before .before .before .before .before .before .before .before .before .before .pre) _ (c .before .before .before .before .before .before .before .is-slot .ensures) (c .before .before .before .before .if1 .taken) _ _ _ _ (c .before .before .gets .ensures .0)
 
 -- src/lib.rt:123:40
 cast-is-open : tie.Need-cast-is-open
@@ -46,7 +46,7 @@ same-length-2 c = search needs
 
 -- src/lib.rt:126:9
 returns-2 : tie.Need-returns-2
-returns-2 c = repeats-steps _ (frameOf (c .before .before .before .before .before .before .before .before .before .before .before .before .before .before .before .before .before .before .before .before .before .before .before .args .f)) (c .before .before .before .before .before .before .before .before .before .before .before .before .before .before .before .before .before .before .before .before .before .before .before .args .v) _ _ _ _ (c .before .before .before .before .before .before .before .before .before .before .before .before .before .before .before .before .before .before .before .before .before .before .before .pre) _ (c .before .before .before .before .before .before .before .before .before .before .before .is-open .ensures) (c .before .before .before .before .before .before .before .before .if2 .taken) _ _ _ _ _ _ (c .before .before .before .before .before .before .before .walk-place .ensures) (c .before .before .steps .ensures)
+returns-2 c = repeats-steps _ (frameOf (c .before .before .before .before .before .before .before .before .before .before .before .before .before .before .before .before .before .before .before .before .before .before .before .args .f)) (c .before .before .before .before .before .before .before .before .before .before .before .before .before .before .before .before .before .before .before .before .before .before .before .args .v) _ _ _ _ (c .before .before .before .before .before .before .before .before .before .before .before .before .before .before .before .before .before .before .before .before .before .before .before .pre) _ (c .before .before .before .before .before .before .before .before .before .before .before .is-open .ensures) (c .before .before .before .before .before .before .before .before .if2 .taken) _ _ _ _ _ _ (c .before .before .before .before .before .before .before .walk-place .ensures) (c .before .before .steps .ensures .0)
 
 -- src/lib.rt:101:1
 returns-3 : tie.Need-returns-3
