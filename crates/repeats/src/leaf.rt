@@ -19,6 +19,9 @@ const ANSWER_SIZE: usize = 6;
 
 const DONE: u8 = 0;
 
+// From these bits on a leaf holds enough that to look for a stretch pays.
+const WORTH: u32 = 3;
+
 pub fn is_step(f: Frame, party: u8, operation: u8, walk: u8) -> bool
     ensures { λ r. ⌜ r ≡ isStep party operation walk (frameOf f) ⌝ }
 {
@@ -98,6 +101,10 @@ pub fn steps_in_leaf(
         (walked (slices (now (numbers .exit)) (now (nodes .entry)) (now (indices .exit))) (now (room .exit)))
         (now (requests .entry)) k count r ⌝ }
 {
+    let v = walk::version(numbers, n);
+    if v.bits < WORTH {
+        return k;
+    }
     let s = walk::stretch_in_leaf(used, numbers, nodes, indices, n, back);
     if s.most == 0 {
         return k;
