@@ -9,10 +9,9 @@ use borrow.Author.Tests.{ltb-false, eq-eqb, ne-eqb}
 use Rattle.meaning.specs.Limits.{DONE, lastOperation}
 use Rattle.meaning.specs.Frames.{Frame}
 use Rattle.meaning.specs.Operations.{new, clone, release, set-at, push-back, drop-last, open-walk, next, next-back, close-walk, hand-over, operations, anyone, hostAlone, uses, ownerOr, opOf, giver, taker}
-use Rattle.meaning.specs.Checks.{firstOf}
+use Rattle.meaning.specs.Checks.{entryChecks, firstOf}
 use Rattle.meaning.specs.Serve.{refused}
-use Rattle.frames.specs.Run.{Run, sourceIn, targetIn}
-use Rattle.frames.specs.Seen.{seenIn, entryChecks, findChecks}
+use Rattle.frames.specs.Run.{Run, sourceIn, targetIn, seenIn, supplyIn}
 use Rattle.frames.specs.Serve.{done, verdict, respond, serve}
 use Rattle.edits.specs.Edits.{pathAct, editAct}
 use Rattle.calls.specs.Reads.{readWith}
@@ -20,7 +19,7 @@ use Rattle.calls.specs.Walks.{walkAct}
 use Rattle.calls.specs.Calls.{readAct, storeAct, act}
 use Rattle.turns.specs.Turns.{entryNumber, turn}
 use Rattle.serving.specs.States.{Runs}
-use Rattle.serving.specs.Passed.{Entered}
+use Rattle.serving.specs.Passed.{Entered, laterChecks}
 use Rattle.serving.proofs.Passing.{entered, giver-below, taker-below, entry-passes, entry-refuses}
 use Rattle.serving.proofs.Sources.{source-within, filled-within, walked-within, opened-within}
 use Rattle.serving.proofs.Seeing.{walk-here}
@@ -42,7 +41,7 @@ module _ (r : Run) (k : Runs r) (party slot destination index value : ℕ) where
   abbrev Turns : Frame → Type 0
   Turns f =
       Entered (opOf f) f (seenIn r f .standing)
-      → respond (firstOf (findChecks (opOf f) f (seenIn r f))) r (done (opOf f) r f) ≡ turned r f (act (r .store) (r .walks) f (sourceIn r f) (targetIn r f) (oldIn r f))
+      → respond (firstOf (laterChecks (opOf f) (supplyIn r) f (seenIn r f))) r (done (opOf f) r f) ≡ turned r f (act (r .store) (r .walks) f (sourceIn r f) (targetIn r f) (oldIn r f))
 
   by-number : (n : ℕ) → n ≤ lastOperation → Turns (frame n)
   unfolding opOf operations uses anyone hostAlone ownerOr giver taker act storeAct editAct pathAct walkAct readAct readWith
@@ -66,7 +65,7 @@ module _ (r : Run) (k : Runs r) (party slot destination index value : ℕ) where
   by-number (suc (suc (suc (suc (suc (suc (suc (suc (suc (suc (suc (suc (suc (suc (suc (suc (suc n))))))))))))))))) l p = absurd (lt-irrefl zero (omega arith))
 
 entered-turns : (r : Run) (f : Frame) → Runs r → Entered (opOf f) f (seenIn r f .standing)
-    → respond (firstOf (findChecks (opOf f) f (seenIn r f))) r (done (opOf f) r f) ≡ turned r f (act (r .store) (r .walks) f (sourceIn r f) (targetIn r f) (oldIn r f))
+    → respond (firstOf (laterChecks (opOf f) (supplyIn r) f (seenIn r f))) r (done (opOf f) r f) ≡ turned r f (act (r .store) (r .walks) f (sourceIn r f) (targetIn r f) (oldIn r f))
 entered-turns r f k p = by-number r k (f .party) (f .slot) (f .destination) (f .index) (f .value) (f .operation) (ltb-false lastOperation (f .operation) (p .operation)) p
 
 -- ---- any frame
@@ -81,13 +80,13 @@ module _ (r : Run) (f : Frame) (k : Runs r) where
   passing : entry ≡ DONE → serve r f ≡ turned r f (turn (r .store) (r .walks) f (sourceIn r f) (targetIn r f) (oldIn r f))
   unfolding serve verdict turn
   passing e =
-      rw (entry-passes (opOf f) f (seenIn r f) e, entry-seen, eq-eqb entry DONE e)
+      rw (entry-passes (opOf f) (supplyIn r) f (seenIn r f) e, entry-seen, eq-eqb entry DONE e)
       (entered-turns r f k (entered (opOf f) f (seenIn r f .standing) e))
 
   refusing : entry ≢ DONE → serve r f ≡ turned r f (turn (r .store) (r .walks) f (sourceIn r f) (targetIn r f) (oldIn r f))
   unfolding verdict turn
   refusing n =
-      let number : verdict r f ≡ entry = entry-refuses (opOf f) f (seenIn r f) n in
+      let number : verdict r f ≡ entry = entry-refuses (opOf f) (supplyIn r) f (seenIn r f) n in
       serve-refused r f (λ e. n (sym number ∙ e)) ∙ rw (entry-seen, ne-eqb entry DONE n, stays r f) (ap (λ (m : ℕ). (r, refused m)) number)
 
   -- what the model serves

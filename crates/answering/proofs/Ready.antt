@@ -17,8 +17,7 @@ use Rattle.shape.specs.Legal.{Legal}
 use Rattle.sweep.specs.Ready.{Releasable}
 use Rattle.walk.specs.Walk.{numberAt, versionIn, Walkable}
 use Rattle.requests.specs.Numbers.{OPEN-WALK, NEXT, NEXT-BACK, CLOSE-WALK, COMPARE}
-use Rattle.frames.specs.Run.{Run, sourceIn, targetIn, walkPlace, walkIn}
-use Rattle.frames.specs.Seen.{seenIn}
+use Rattle.frames.specs.Run.{Run, sourceIn, targetIn, walkPlace, walkIn, seenIn}
 use Rattle.edits.specs.Edits.{Able}
 use Rattle.calls.specs.Reads.{isSource, sourced}
 use Rattle.calls.specs.Walks.{usedPlace, OnWalk}

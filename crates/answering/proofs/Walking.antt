@@ -11,8 +11,9 @@ use Rattle.meaning.specs.Counting.{bit}
 use Rattle.meaning.specs.Lent.{WalkSlices, WalkRecord, walkRecord}
 use Rattle.meaning.specs.Frames.{Frame}
 use Rattle.meaning.specs.Operations.{open-walk, next, next-back, close-walk, anyone, uses, giver, taker}
-use Rattle.meaning.specs.Costs.{plain, cost}
-use Rattle.meaning.specs.Checks.{_if_, firstOf}
+use Rattle.meaning.specs.Costs.{plain, priced, cost}
+use Rattle.meaning.specs.Supply.{isShort}
+use Rattle.meaning.specs.Checks.{noFault, faults, anyField, nothingThere, isFull, _if_, findChecks, nodesCheck, firstOf}
 use Rattle.meaning.specs.Serve.{refused}
 use Rattle.lookup.specs.declared.Got.the-variants.{Element, Nothing}
 use Rattle.store.specs.Store.{raised}
@@ -20,24 +21,22 @@ use Rattle.sweep.specs.Sweep as sweep
 use Rattle.levels.specs.Levels.{Taken}
 use Rattle.walk.specs.Walk.{stepped, versionIn, isEnded, takenAt, takenOf, takenBy}
 use Rattle.walk.specs.Walk as walk
-use Rattle.frames.specs.Run.{Run, walkPlace, sourceIn, walkedIn}
-use Rattle.frames.specs.Charges.{chargeOf}
-use Rattle.frames.specs.Seen.{seenIn, isBadBits, isNothing, isFullOf, findChecks}
+use Rattle.frames.specs.Run.{Run, walkPlace, sourceIn, walkedIn, seenIn, supplyIn}
 use Rattle.frames.specs.Serve.{run, answers, opens, gotOf, takes, closes, done, freshIn, respond}
 use Rattle.edits.specs.Edits.{valued}
 use Rattle.calls.specs.Walks.{usedPlace, openedPlace, acted, answerOf}
 use Rattle.calls.specs.Calls.{withWalks}
 use Rattle.serving.specs.States.{Runs}
-use Rattle.serving.specs.Passed.{Entered}
+use Rattle.serving.specs.Passed.{Entered, laterChecks}
 use Rattle.serving.proofs.Walking.{close-does}
 use Rattle.answering.specs.Turned.{oldIn, turned}
 use Rattle.answering.proofs.Calling.{stays, no-charge, refuses}
 
 module _ (r : Run) (f : Frame) where
   pub open-turns : openedPlace f ≡ walkPlace (taker f) (f .destination)
-      → respond (firstOf (findChecks open-walk f (seenIn r f))) r (done open-walk r f)
+      → respond (firstOf (laterChecks open-walk (supplyIn r) f (seenIn r f))) r (done open-walk r f)
       ≡ turned r f (withWalks (acted (raised (r .store) (sourceIn r f .root ∷ [])) (oldIn r f) (valued 0)) (walk.opened (r .walks) (openedPlace f) (sourceIn r f)))
-  unfolding findChecks _if_ firstOf uses anyone isBadBits isNothing isFullOf chargeOf seenIn done opens respond freshIn
+  unfolding laterChecks findChecks nodesCheck _if_ firstOf uses anyone anyField faults noFault nothingThere isFull cost priced plain isShort seenIn done opens respond freshIn
   open-turns here = let none : r .store .free - r .store .free ≡ 0 = omega arith in rw (no-charge (r .store .free), none, stays r f, here)
 
   module _ (used : usedPlace f ≡ walkPlace (giver f) (f .slot)) (here : walkedIn r f ≡ walkRecord (r .walks) (walkPlace (giver f) (f .slot))) where
@@ -51,9 +50,9 @@ module _ (r : Run) (f : Frame) where
     root-is = ap (λ (w : WalkRecord). w .version .root) here
 
     pub close-turns : (k : Runs r) → taker f < parties → giver f ≡ taker f → Entered close-walk f (seenIn r f .standing)
-        → respond (firstOf (findChecks close-walk f (seenIn r f))) r (done close-walk r f)
+        → respond (firstOf (laterChecks close-walk (supplyIn r) f (seenIn r f))) r (done close-walk r f)
         ≡ turned r f (withWalks (acted (sweep.release (r .store) (versionIn (r .walks .numbers) (usedPlace f) .root)) (oldIn r f) (valued 0)) (walk.closed (r .walks) (usedPlace f)))
-    unfolding findChecks _if_ firstOf uses anyone isBadBits isNothing isFullOf chargeOf seenIn done respond closes cost plain
+    unfolding laterChecks findChecks nodesCheck _if_ firstOf uses anyone anyField faults noFault nothingThere isFull cost priced plain isShort seenIn done respond closes
     close-turns k below own p =
         let none : freshIn r (closes r f .run) ≡ 0 = close-does r f k below own (record { entered = p; bits = refl; there = refl; room = refl; nodes = no-charge (r .store .free) }) .fresh in
         rw (no-charge (r .store .free), none, stays r f, used, root-is)
@@ -83,16 +82,16 @@ module _ (r : Run) (f : Frame) where
         by true ws x = refuses r f (answers r 0) 7
         by false ws x = let none : r .store .free - r .store .free ≡ 0 = omega arith in rw (none, stays r f)
 
-    pub next-turns : respond (firstOf (findChecks next f (seenIn r f))) r (done next r f)
+    pub next-turns : respond (firstOf (laterChecks next (supplyIn r) f (seenIn r f))) r (done next r f)
         ≡ turned r f
         (withWalks (acted (r .store) (oldIn r f) (answerOf (takenBy (r .store .nodes .cells) (r .store .nodes .used) false (r .walks) (usedPlace f) .answer)))
         (takenBy (r .store .nodes .cells) (r .store .nodes .used) false (r .walks) (usedPlace f) .slices))
-    unfolding findChecks _if_ firstOf uses anyone isBadBits isNothing isFullOf chargeOf seenIn done
+    unfolding laterChecks findChecks nodesCheck _if_ firstOf uses anyone anyField faults noFault nothingThere isFull cost priced plain isShort seenIn done
     next-turns = rw (no-charge (r .store .free), ended-is, used) (take-turns false)
 
-    pub next-back-turns : respond (firstOf (findChecks next-back f (seenIn r f))) r (done next-back r f)
+    pub next-back-turns : respond (firstOf (laterChecks next-back (supplyIn r) f (seenIn r f))) r (done next-back r f)
         ≡ turned r f
         (withWalks (acted (r .store) (oldIn r f) (answerOf (takenBy (r .store .nodes .cells) (r .store .nodes .used) true (r .walks) (usedPlace f) .answer)))
         (takenBy (r .store .nodes .cells) (r .store .nodes .used) true (r .walks) (usedPlace f) .slices))
-    unfolding findChecks _if_ firstOf uses anyone isBadBits isNothing isFullOf chargeOf seenIn done
+    unfolding laterChecks findChecks nodesCheck _if_ firstOf uses anyone anyField faults noFault nothingThere isFull cost priced plain isShort seenIn done
     next-back-turns = rw (no-charge (r .store .free), ended-is, used) (take-turns true)

@@ -9,9 +9,9 @@ use lib.Pow.{pow-mono}
 use borrow.Author.Tests.{leb-true}
 use Rattle.meaning.specs.Limits.{BRANCH, LEAF, nodeCells, maxBits, lengthBits, maxLength, walkLevels, wordWidth}
 use Rattle.meaning.specs.Shape.{degree}
+use Rattle.meaning.proofs.Booleans.{both-true}
 use Rattle.shape.proofs.Powers.{degree-most, degree-power, one-shifts}
 use Rattle.audit_model.specs.Descent.{leafOk, branchOk}
-use Rattle.audit_model.proofs.Tests.{both-true}
 use Rattle.audit_descent.specs.Ready.{Ready}
 
 pub capacity-is : (b h : ℕ) → h * b < lengthBits → let r = (1 * 2 ^ (h * b)) % 2 ^ wordWidth in (r ≡ degree b ^ h) × (r ≤ maxLength)

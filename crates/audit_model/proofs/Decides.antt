@@ -17,9 +17,10 @@ use Rattle.meaning.specs.Links.{roots, cellLinks, links, Reached, byRoot, byCel
 use Rattle.meaning.specs.WellFormed.{SizesFit, LegalVersion, LegalWalk, WellFormed}
 use Rattle.meaning.proofs.Lists.{sum-none, many-some}
 use Rattle.meaning.proofs.Reaching.{reached-used}
+use Rattle.meaning.proofs.Booleans.{both-true}
 use Rattle.audit_model.specs.Descent.{Answer}
 use Rattle.audit_model.specs.Audit.{Blank, recordsOk, orderOk, tallies, spareOk, nodeOk, nodesOk, restOk}
-use Rattle.audit_model.proofs.Tests.{true≢false, both-true, true-both, all-at, at-all, from-at, at-from}
+use Rattle.audit_model.proofs.Tests.{true≢false, true-both, all-at, at-all, from-at, at-from}
 use Rattle.audit_model.proofs.Visits.{used-node}
 use Rattle.audit_model.proofs.Lists.{none-of, bit-some, many-one}
 use Rattle.audit_model.proofs.Counts.{order-occurs, tallies-are}

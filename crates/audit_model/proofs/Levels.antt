@@ -19,8 +19,9 @@ use Rattle.meaning.specs.Shape.{bucket}
 use Rattle.meaning.specs.Trees.{heightOf}
 use Rattle.meaning.specs.Walks.{way, stack, padded}
 use Rattle.meaning.proofs.Lists.{replicate-at}
+use Rattle.meaning.proofs.Booleans.{both-true}
 use Rattle.audit_model.specs.Records.{isIndex, levelIs, wayOk, blankFrom, stackOk}
-use Rattle.audit_model.proofs.Tests.{true≢false, both-true, true-both, from-at, at-from}
+use Rattle.audit_model.proofs.Tests.{true≢false, true-both, from-at, at-from}
 
 -- ---- lists by rule
 

@@ -12,8 +12,9 @@ use Rattle.meaning.specs.Limits.{walkNumbers}
 use Rattle.meaning.specs.Lent.{Lent, size}
 use Rattle.meaning.specs.WellFormed.{SizesFit, WellFormed}
 use Rattle.meaning.proofs.Lists.{replicate-at}
+use Rattle.meaning.proofs.Booleans.{both-true}
 use Rattle.audit_model.specs.Audit.{versionCount, Blank, lengthsOk, sizesOk, restOk, auditOk}
-use Rattle.audit_model.proofs.Tests.{true≢false, both-true, true-both}
+use Rattle.audit_model.proofs.Tests.{true≢false, true-both}
 use Rattle.audit_model.proofs.Decides.{rest-sound, rest-complete}
 
 pub sizes-fit : (s : Lent) → sizesOk s ≡ true → SizesFit s

@@ -15,11 +15,12 @@ use Rattle.meaning.specs.Shape.{height}
 use Rattle.meaning.specs.Trees.{Shaped, heightOf}
 use Rattle.meaning.specs.Walks.{stack, padded, forwardStack, backwardStack}
 use Rattle.meaning.specs.WellFormed.{LegalVersion, LegalWalk}
+use Rattle.meaning.proofs.Booleans.{both-true}
 use Rattle.shape.specs.Legal.{Legal}
 use Rattle.shape.proofs.Capacity.{height-levels}
 use Rattle.audit_model.specs.Descent.{answer, pick, visit}
 use Rattle.audit_model.specs.Records.{emptyOk, legalOk, versionStep, stackOk, walkAgrees, walkStep}
-use Rattle.audit_model.proofs.Tests.{true≢false, both-true, true-both}
+use Rattle.audit_model.proofs.Tests.{true≢false, true-both}
 use Rattle.audit_model.proofs.Done.{Good, Done, done-refused, done-tested, done-as, done-then}
 use Rattle.audit_model.proofs.Visits.{visit-done}
 use Rattle.audit_model.proofs.Levels.{stack-right, right-stack}

@@ -7,14 +7,11 @@ use native.Mathlib.Nat.{lt-irrefl, eq-or-lt-of-le, le-of-suc-le-suc}
 use native.Mathlib.Omega.{arith}
 use lib.Dec.{ltb}
 use borrow.Author.Tests.{ltb-false, le-ltb}
+use Rattle.meaning.proofs.Booleans.{both-true}
 use Rattle.audit_model.specs.Records.{allTo, allFrom}
 
 pub true≢false : {A : Type 0} → _≡_ {A = Bool} true false → A
 true≢false e = let z : _≡_ {A = ℕ} 0 1 = cc in absurd (lt-irrefl zero (omega arith))
-
-pub both-true : (a c : Bool) → (a && c) ≡ true → (a ≡ true) × (c ≡ true)
-both-true true c e = (refl, e)
-both-true false c e = true≢false (sym e)
 
 pub true-both : (a c : Bool) → a ≡ true → c ≡ true → (a && c) ≡ true
 true-both true c e f = f

@@ -16,8 +16,9 @@ use Rattle.meaning.specs.Lent.{Nodes, kindOf, usedOf, cellOf}
 use Rattle.meaning.specs.Shape.{degree}
 use Rattle.meaning.specs.Trees.{Shaped}
 use Rattle.meaning.proofs.Reaching.{shaped-used}
+use Rattle.meaning.proofs.Booleans.{both-true}
 use Rattle.audit_model.specs.Descent.{code, Answer, answer, pick, andThen, through, marked, leafOk, branchOk, known, child, visit}
-use Rattle.audit_model.proofs.Tests.{true≢false, both-true, true-both}
+use Rattle.audit_model.proofs.Tests.{true≢false, true-both}
 use Rattle.audit_model.proofs.Done.{Numbers, Good, Grows, Done, done-refused, done-tested, done-as, done-then, done-through}
 
 -- ---- codes

@@ -11,6 +11,7 @@ use borrow.Author.Tests.{eq-eqb, ne-eqb, eqb-true}
 use Rattle.meaning.specs.Limits.{maxBits, maxLength}
 use Rattle.meaning.specs.Lent.{Nodes, VersionRecord, walkRecord}
 use Rattle.meaning.specs.Trees.{heightOf}
+use Rattle.meaning.proofs.Booleans.{both-true}
 use Rattle.records.specs.declared.Version.{Version}
 use Rattle.records.specs.Records.{recordOf, recordsOf}
 use Rattle.shape.specs.Legal.{Legal}
@@ -19,7 +20,7 @@ use Rattle.audit_model.specs.Made.{walksOf, lentOf, walkVersion}
 use Rattle.audit_model.specs.Descent.{Answer, answer, pick, goOn, through, visit}
 use Rattle.audit_model.specs.Records.{emptyOk, legalOk, versionStep, walkAgrees, walkStep}
 use Rattle.audit_model.specs.Audit.{versionCount, walkCount, versionOf, versionsOk, walksOk, recordsOk}
-use Rattle.audit_model.proofs.Tests.{true≢false, both-true}
+use Rattle.audit_model.proofs.Tests.{true≢false}
 use Rattle.audit_model.proofs.Slots.{legal-is}
 use Rattle.audit_model.proofs.Steps.{pick-yes, pick-no}
 use Rattle.audit_descent.specs.Ready.{Ready}

@@ -4,7 +4,7 @@ use Prim.Native.Nat.{ℕ, zero, suc}
 use Rattle.meaning.specs.Limits.{NOT-A-FRAME, programNodes}
 use Rattle.meaning.specs.Fresh.{freshState}
 use Rattle.meaning.specs.Frames.{Answer}
-use Rattle.meaning.specs.Checks.{Supply}
+use Rattle.meaning.specs.Supply.{Supply}
 use Rattle.meaning.specs.Serve.{refused}
 use Rattle.meaning.specs.Program.{Line, frame, other}
 use Rattle.frames.specs.Run.{Run}

@@ -1,4 +1,2 @@
 pub mod Run
-pub mod Charges
-pub mod Seen
 pub mod Serve

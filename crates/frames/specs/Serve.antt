@@ -8,7 +8,7 @@ use Rattle.meaning.specs.Lent.{VersionRecord, emptyRecord, WalkSlices}
 use Rattle.meaning.specs.Trees.{heightOf, element, contents}
 use Rattle.meaning.specs.Frames.{Frame, Answer}
 use Rattle.meaning.specs.Operations.{Op, new, clone, release, len, get, set-at, push-back, drop-last, open-walk, next, next-back, close-walk, hand-over, free-nodes, first, last, compare, unknown, opOf, giver, taker}
-use Rattle.meaning.specs.Checks.{firstOf}
+use Rattle.meaning.specs.Checks.{checks, firstOf}
 use Rattle.meaning.specs.Effects.{order, signed}
 use Rattle.meaning.specs.Serve.{refused}
 use Rattle.lookup.specs.declared.Got.{Got}
@@ -17,8 +17,7 @@ use Rattle.store.specs.Store.{Store, raised}
 use Rattle.sweep.specs.Sweep as sweep
 use Rattle.paths.specs.Edits.{Edit, newEdit, shareEdit, setEdit, pushEdit, dropEdit}
 use Rattle.walk.specs.Walk as walk
-use Rattle.frames.specs.Run.{Run, slotPlace, walkPlace, sourceIn, targetIn, walkedIn}
-use Rattle.frames.specs.Seen.{seenIn, seenChecks}
+use Rattle.frames.specs.Run.{Run, slotPlace, walkPlace, sourceIn, targetIn, walkedIn, seenIn, supplyIn}
 
 -- the state afterwards, and the value answered
 pub record Served : Type 0 where
@@ -85,7 +84,7 @@ done unknown r f = answers r 0
 
 -- the number of the first check that applies, or 0
 unfoldable pub verdict : Run → Frame → ℕ
-verdict r f = firstOf (seenChecks (opOf f) f (seenIn r f))
+verdict r f = firstOf (checks (opOf f) (supplyIn r) f (seenIn r f))
 
 -- fresh is the fall in free nodes: what a release gives back does not count
 unfoldable pub freshIn : Run → Run → ℕ

@@ -12,6 +12,7 @@ use lib.ListN.{length, getD, take}
 use lib.Seq.{take-suc, take-all}
 use borrow.Author.Tests.{leb-true, le-leb, lt-leb, lt-ltb, le-ltb, ne-eqb}
 use Rattle.meaning.specs.Program.{lineFeed, isDigit, digitValue, digitByte, allDigits}
+use Rattle.meaning.proofs.Booleans.{both-true}
 
 -- ---- one digit
 
@@ -73,13 +74,9 @@ all-next text i all digit l p q = rw (p, q, add-one, take-suc text i 0 l) (sym (
 pub all-ends : (text : List ℕ) (i : ℕ) (all : Bool) → all ≡ allDigits (take i text) → length text ≤ i → all ≡ allDigits text
 all-ends text i all p l = p ∙ ap allDigits (take-all i text l)
 
-both : (p q : Bool) → (p && q) ≡ true → (p ≡ true) × (q ≡ true)
-both true q e = (refl, e)
-both false q e = (e, cc)
-
 pub all-cons : (b : ℕ) (bs : List ℕ) → allDigits (b ∷ bs) ≡ true → (isDigit b ≡ true) × (allDigits bs ≡ true)
 unfolding allDigits
-all-cons b bs e = both (isDigit b) (allDigits bs) e
+all-cons b bs e = both-true (isDigit b) (allDigits bs) e
 
 pub all-at : (text : List ℕ) (i : ℕ) → allDigits text ≡ true → i < length text → isDigit (getD text i 0) ≡ true
 all-at [] i e l = absurd (lt-irrefl 0 (omega arith))

@@ -11,7 +11,7 @@ use Rattle.meaning.specs.Limits.{lastParty, NO-NODES}
 use Rattle.meaning.specs.Table.{Table, partyAt, freshParty}
 use Rattle.meaning.specs.Counting.{Each}
 use Rattle.meaning.specs.Frames.{Frame, Answer}
-use Rattle.meaning.specs.Checks.{Supply, unlimited}
+use Rattle.meaning.specs.Supply.{Supply, noLimit}
 use Rattle.meaning.specs.Serve.{step, serve, Call, Reply, run}
 use Rattle.meaning.proofs.Lists.{each-map}
 use Rattle.isolation.specs.Demand3.{keep, framesOf, answersTo, strikeOut, framesIn, partyByParty, withoutLimit, Own, Demand3}
@@ -30,27 +30,27 @@ length-run [] t = refl
 length-run (c ∷ cs) t = length-run cs (serve (c .supply) (c .frame) t .0) ∙ length-serve (c .supply) (c .frame) t
 
 -- a run with no limit, as the frames alone
-run-together : (fs : List Frame) (t : Table) → run (withoutLimit fs) t ≡ together (serve unlimited) fs t
+run-together : (fs : List Frame) (t : Table) → run (withoutLimit fs) t ≡ together (serve noLimit) fs t
 unfolding run together
 run-together [] t = refl
-run-together (f ∷ fs) t = rw (run-together fs (serve unlimited f t .0))
+run-together (f ∷ fs) t = rw (run-together fs (serve noLimit f t .0))
 
 -- on a table of 8 parties, a party's own call reads and changes its own slots and walks alone
-pub table-apart : Apart (λ p t. partyAt t p) (serve unlimited) (λ f x. step unlimited f x x) (λ (t : Table). length t ≡ suc lastParty)
+pub table-apart : Apart (λ p t. partyAt t p) (serve noLimit) (λ f x. step noLimit f x x) (λ (t : Table). length t ≡ suc lastParty)
 unfolding partyAt
 table-apart =
     record {
-      good = λ f t w e. length-serve unlimited f t ∙ e;
+      good = λ f t w e. length-serve noLimit f t ∙ e;
       own = λ f t w e. let l : f .party < length t = omega (arith, w .party) in
-          ap (λ (x : Table × Answer). getD (x .0) (f .party) freshParty) (serve-own unlimited f t w) ∙ getD-set-same t (f .party) _ freshParty l;
-      told = λ f t w e. ap (λ (x : Table × Answer). x .1) (serve-own unlimited f t w);
-      others = λ f t w e p d. ap (λ (x : Table × Answer). getD (x .0) p freshParty) (serve-own unlimited f t w) ∙ getD-set-other t (f .party) p _ freshParty d;
+          ap (λ (x : Table × Answer). getD (x .0) (f .party) freshParty) (serve-own noLimit f t w) ∙ getD-set-same t (f .party) _ freshParty l;
+      told = λ f t w e. ap (λ (x : Table × Answer). x .1) (serve-own noLimit f t w);
+      others = λ f t w e p d. ap (λ (x : Table × Answer). getD (x .0) p freshParty) (serve-own noLimit f t w) ∙ getD-set-other t (f .party) p _ freshParty d;
     }
 
 -- each party's slots, walks and answers are those of its own frames, run alone
 pub isolated : (fs : List Frame) (t : Table) (p : ℕ) → length t ≡ suc lastParty → Each Own fs
-    → (partyAt (run (withoutLimit fs) t .0) p ≡ alone (λ f x. step unlimited f x x) (framesOf p fs) (partyAt t p) .0)
-    × (answersTo p (run (withoutLimit fs) t .1) ≡ alone (λ f x. step unlimited f x x) (framesOf p fs) (partyAt t p) .1)
+    → (partyAt (run (withoutLimit fs) t .0) p ≡ alone (λ f x. step noLimit f x x) (framesOf p fs) (partyAt t p) .0)
+    × (answersTo p (run (withoutLimit fs) t .1) ≡ alone (λ f x. step noLimit f x x) (framesOf p fs) (partyAt t p) .1)
 isolated fs t p e h = rw (run-together fs t) (isolation _ _ _ _ table-apart fs t p h e)
 
 -- mixed and party by party come to the same

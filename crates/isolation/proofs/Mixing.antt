@@ -4,14 +4,14 @@ use mathlib.Core.List.{List, [], _∷_, map}
 use Prim.Native.Nat.{ℕ}
 use Rattle.meaning.specs.Table.{freshTable}
 use Rattle.meaning.specs.Frames.{Answer, decode, encode, fromBytes, toBytes}
-use Rattle.meaning.specs.Checks.{nodes}
+use Rattle.meaning.specs.Supply.{allFree}
 use Rattle.meaning.specs.Serve.{Call}
 use Rattle.isolation.specs.Demand3.{keep, framesOf, answersTo, strikeOut, partyByParty, left, apart}
 use Rattle.meaning.proofs.Sessions.{session, Line, _with_}
 
 unfoldable pub mix : List Call
 unfolding session
-mix = map (λ (l : Line). record { supply = nodes (l .free); frame = decode (toBytes 12 (l .frame)) })
+mix = map (λ (l : Line). record { supply = allFree (l .free); frame = decode (toBytes 12 (l .frame)) })
     ((0x010000000000000500000000 with 2)  -- party 1: new
     ∷ (0x020000000000000100000000 with 1)  -- party 2: new
     ∷ (0x010600010000000000000007 with 0)  -- party 1: push, 10

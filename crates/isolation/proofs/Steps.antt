@@ -12,20 +12,17 @@ use Rattle.meaning.specs.Table.{Version, Party, Table, partyAt, freshParty}
 use Rattle.meaning.specs.Frames.{Frame, Answer}
 use Rattle.meaning.specs.Operations.{Op, new, clone, release, len, get, set-at, push-back, drop-last, open-walk, next, next-back, close-walk, hand-over, free-nodes, first, last, compare, unknown, opOf, anyone, uses, ownerOr, giver, taker}
 use Rattle.meaning.specs.Costs.{cost}
-use Rattle.meaning.specs.Checks.{Supply, unlimited, isShort, Check, _if_, firstOf, checks, sourceOf, leftOf}
+use Rattle.meaning.specs.Supply.{Supply, noLimit, isShort}
+use Rattle.meaning.specs.Checks.{Seen, Check, _if_, earlierChecks, nodesCheck, checks, firstOf, sourceOf, leftOf, seenBy}
 use Rattle.meaning.specs.Effects.{effect}
-use Rattle.meaning.specs.Serve.{refused, respond, step, serve}
+use Rattle.meaning.specs.Serve.{respond, step, serve}
+use Rattle.meaning.proofs.Answers.{respond-number}
 use Rattle.isolation.specs.Demand3.{Own}
 use Rattle.isolation.proofs.Operations.{code, op-number}
 
 -- ---- answers
 
-pub respond-number : (n : ℕ) (t : Party) (r : Party × Answer) → r .1 .number ≡ DONE → respond n t r .1 .number ≡ n
-unfolding respond refused
-respond-number zero t r e = e
-respond-number (suc n) t r e = refl
-
-pub step-number : (s : Supply) (f : Frame) (g t : Party) → step s f g t .1 .number ≡ firstOf (checks (opOf f) s f g t)
+pub step-number : (s : Supply) (f : Frame) (g t : Party) → step s f g t .1 .number ≡ firstOf (checks (opOf f) s f (seenBy f g t))
 unfolding step
 step-number s f g t = respond-number _ t _ refl
 
@@ -58,11 +55,11 @@ last-check (c ∷ l) n b h = pick (c .applies) (last-check l n b) h
     pick true ih k = refl
     pick false ih k = ih k
 
-checks-unlimited : (o : Op) (s : Supply) (f : Frame) (g t : Party) → firstOf (checks o s f g t) ≢ NO-NODES → firstOf (checks o s f g t) ≡ firstOf (checks o unlimited f g t)
-unfolding checks isShort
-checks-unlimited o s f g t h = last-check (_ ∷ _ ∷ _ ∷ _ ∷ _ ∷ _ ∷ _ ∷ _ ∷ _ ∷ []) NO-NODES (isShort s (cost o (sourceOf g f) .charge)) h
+checks-unlimited : (o : Op) (s : Supply) (f : Frame) (x : Seen) → firstOf (checks o s f x) ≢ NO-NODES → firstOf (checks o s f x) ≡ firstOf (checks o noLimit f x)
+unfolding checks nodesCheck isShort
+checks-unlimited o s f x h = last-check (earlierChecks o f x) NO-NODES (isShort (s .spend) (cost o (x .bits) (x .length) .charge)) h
 
-effect-unlimited : (o : Op) → o ≢ free-nodes → (s : Supply) (f : Frame) (v : Version) (w : List ℕ) (t : Party) → effect o s f v w t ≡ effect o unlimited f v w t
+effect-unlimited : (o : Op) → o ≢ free-nodes → (s : Supply) (f : Frame) (v : Version) (w : List ℕ) (t : Party) → effect o s f v w t ≡ effect o noLimit f v w t
 unfolding effect
 effect-unlimited new h s f v w t = refl
 effect-unlimited clone h s f v w t = refl
@@ -83,14 +80,14 @@ effect-unlimited last h s f v w t = refl
 effect-unlimited compare h s f v w t = refl
 effect-unlimited unknown h s f v w t = refl
 
-pub step-unlimited : (s : Supply) (f : Frame) (g t : Party) → opOf f ≢ free-nodes → step s f g t .1 .number ≢ NO-NODES → step s f g t ≡ step unlimited f g t
+pub step-unlimited : (s : Supply) (f : Frame) (g t : Party) → opOf f ≢ free-nodes → step s f g t .1 .number ≢ NO-NODES → step s f g t ≡ step noLimit f g t
 unfolding step
 step-unlimited s f g t o h =
-    ap₂ (λ (n : ℕ) (e : Party × ℕ). respond n t (e .0, record { number = DONE; fresh = cost (opOf f) (sourceOf g f) .fresh; value = e .1 }))
-    (checks-unlimited (opOf f) s f g t (λ e. h (step-number s f g t ∙ e)))
+    ap₂ (λ (n : ℕ) (e : Party × ℕ). respond n t (e .0, record { number = DONE; fresh = cost (opOf f) (seenBy f g t .bits) (seenBy f g t .length) .fresh; value = e .1 }))
+    (checks-unlimited (opOf f) s f (seenBy f g t) (λ e. h (step-number s f g t ∙ e)))
     (effect-unlimited (opOf f) o s f (sourceOf g f) (leftOf g f) t)
 
-pub serve-unlimited : (s : Supply) (f : Frame) (t : Table) → opOf f ≢ free-nodes → serve s f t .1 .number ≢ NO-NODES → serve s f t ≡ serve unlimited f t
+pub serve-unlimited : (s : Supply) (f : Frame) (t : Table) → opOf f ≢ free-nodes → serve s f t .1 .number ≢ NO-NODES → serve s f t ≡ serve noLimit f t
 unfolding serve
 serve-unlimited s f t o h = rw (step-unlimited s f _ _ o h)
 

@@ -11,7 +11,7 @@ use Rattle.meaning.specs.Table.{Table}
 use Rattle.meaning.specs.Counting.{Each}
 use Rattle.meaning.specs.Frames.{Answer}
 use Rattle.meaning.specs.Operations.{free-nodes, opOf}
-use Rattle.meaning.specs.Checks.{unlimited}
+use Rattle.meaning.specs.Supply.{noLimit}
 use Rattle.meaning.specs.Serve.{serve, Call, Reply, run}
 use Rattle.isolation.specs.Demand3.{keep, strikeOut, framesIn, withoutLimit}
 use Rattle.isolation.proofs.Steps.{serve-refused, serve-unlimited}
@@ -42,5 +42,5 @@ run-struck (c ∷ cs) t h = pick (eqb (r .1 .number) NO-NODES) refl (run-struck 
         let same : r .0 ≡ t = serve-refused (c .supply) (c .frame) t (omega arith) in
         ap (λ (x : Table). run (withoutLimit (framesIn kept)) x) (sym same) ∙ ih
     pick false e ih =
-        let same : r ≡ serve unlimited (c .frame) t = serve-unlimited (c .supply) (c .frame) t (h .0) (eqb-false _ _ e) in
+        let same : r ≡ serve noLimit (c .frame) t = serve-unlimited (c .supply) (c .frame) t (h .0) (eqb-false _ _ e) in
         rw (← same, ih)

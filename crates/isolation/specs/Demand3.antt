@@ -10,7 +10,7 @@ use Rattle.meaning.specs.Limits.{lastParty, NO-NODES}
 use Rattle.meaning.specs.Table.{Table}
 use Rattle.meaning.specs.Frames.{Frame, Answer}
 use Rattle.meaning.specs.Counting.{Each}
-use Rattle.meaning.specs.Checks.{unlimited}
+use Rattle.meaning.specs.Supply.{noLimit}
 use Rattle.meaning.specs.Serve.{Call, Reply, run}
 
 -- ---- the words of the statement
@@ -45,7 +45,7 @@ partyByParty (suc n) fs = partyByParty n fs ++ framesOf n fs
 
 -- with no limit of nodes
 abbrev pub withoutLimit : List Frame → List Call
-withoutLimit fs = map (λ (f : Frame). record { supply = unlimited; frame = f }) fs
+withoutLimit fs = map (λ (f : Frame). record { supply = noLimit; frame = f }) fs
 
 -- of parties 0 to 7, without the operations 0C and 0D
 pub record Own (f : Frame) : Type 0 where

@@ -8,7 +8,7 @@ use lib.Dec.{eqb}
 use lib.ListN.{length, drop}
 use Rattle.meaning.specs.Limits.{frameSize}
 use Rattle.meaning.specs.Table.{Table}
-use Rattle.meaning.specs.Checks.{Supply}
+use Rattle.meaning.specs.Supply.{Supply}
 use Rattle.meaning.specs.Frames.{toBytes, encode}
 use Rattle.meaning.specs.Serve.{refused, run}
 use Rattle.meaning.specs.Batch.{callsIn, answerBytes}

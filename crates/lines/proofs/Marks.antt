@@ -11,7 +11,7 @@ use lib.Seq.{take-take, take-nil, drop-drop}
 use Rattle.meaning.specs.Limits.{frameSize, answerSize, NOT-A-FRAME}
 use Rattle.meaning.specs.Frames.{decode, encode}
 use Rattle.meaning.specs.Serve.{refused}
-use Rattle.meaning.specs.Checks.{Supply}
+use Rattle.meaning.specs.Supply.{Supply}
 use Rattle.meaning.specs.Batch.{callsIn}
 use Rattle.meaning.specs.Program.{Line, frame, other}
 use Rattle.hexadecimal.specs.Text.{printedAnswer}

@@ -10,7 +10,7 @@ use lib.ListN.{length, take, drop}
 use Rattle.meaning.specs.Limits.{frameSize, answerSize, NOT-A-FRAME}
 use Rattle.meaning.specs.Table.{Table}
 use Rattle.meaning.specs.Frames.{Answer, toBytes, decode, encode}
-use Rattle.meaning.specs.Checks.{Supply}
+use Rattle.meaning.specs.Supply.{Supply}
 use Rattle.meaning.specs.Serve.{refused, serve, run}
 use Rattle.meaning.specs.Batch.{callsIn, answerBytes}
 use Rattle.meaning.specs.Program.{Line, frame, other, lineFeed, toHex, talk, write}

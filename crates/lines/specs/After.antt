@@ -3,7 +3,7 @@ use mathlib.Core.List.{List, [], _∷_}
 use Prim.Native.Nat.{ℕ, suc}
 use lib.ListN.{take}
 use Rattle.meaning.specs.Table.{Table}
-use Rattle.meaning.specs.Checks.{Supply}
+use Rattle.meaning.specs.Supply.{Supply}
 use Rattle.meaning.specs.Serve.{serve}
 use Rattle.meaning.specs.Program.{Line, frame, other}
 use Rattle.lines.specs.Lines.{framesMarked}

@@ -7,15 +7,16 @@ use Prim.Native.Nat.{ℕ, zero, suc, _+_, _-_, _/_, _%_, _^_, _≤_}
 use native.Mathlib.Nat.{le-trans, div-le-self}
 use native.Mathlib.Omega.{arith}
 use lib.Dec.{eqb, leb}
-use lib.ListN.{length, getD, set}
+use lib.ListN.{getD, set}
 use Rattle.meaning.specs.Limits.{wordWidth, DONE, NO-NODES}
 use Rattle.meaning.specs.Counting.{Each}
 use Rattle.meaning.specs.Shape.{degree, bitsToWrite, ifLeft, levels, height}
-use Rattle.meaning.specs.Table.{Version, Party, Table, freshParty, partyAt}
+use Rattle.meaning.specs.Table.{Party, Table, freshParty, partyAt}
 use Rattle.meaning.specs.Frames.{Frame, Answer}
-use Rattle.meaning.specs.Operations.{Op, new, clone, release, len, get, set-at, push-back, drop-last, open-walk, next, next-back, close-walk, hand-over, free-nodes, first, last, compare, unknown, opOf, giver, taker}
-use Rattle.meaning.specs.Costs.{dropFresh, cost}
-use Rattle.meaning.specs.Checks.{Supply, Check, _if_, firstOf, checks, sourceOf}
+use Rattle.meaning.specs.Operations.{Op, Price, noNodes, emptyLeaf, pathSet, pathPushed, pathDropped, uses, opOf, giver, taker}
+use Rattle.meaning.specs.Costs.{dropFresh, priced, cost}
+use Rattle.meaning.specs.Supply.{Supply}
+use Rattle.meaning.specs.Checks.{Seen, Check, _if_, entryChecks, findChecks, earlierChecks, nodesCheck, checks, firstOf, seenBy}
 use Rattle.meaning.specs.Serve.{refused, respond, step, serve}
 use Rattle.meaning.proofs.Lists.{many-le}
 
@@ -23,9 +24,9 @@ use Rattle.meaning.proofs.Lists.{many-le}
 
 -- the number that a frame is answered: that of its first check that applies
 abbrev pub verdict : Supply → Frame → Table → ℕ
-verdict s f t = firstOf (checks (opOf f) s f (partyAt t (giver f)) (partyAt t (taker f)))
+verdict s f t = firstOf (checks (opOf f) s f (seenBy f (partyAt t (giver f)) (partyAt t (taker f))))
 
-respond-number : (n : ℕ) (t : Party) (r : Party × Answer) → r .1 .number ≡ DONE → respond n t r .1 .number ≡ n
+pub respond-number : (n : ℕ) (t : Party) (r : Party × Answer) → r .1 .number ≡ DONE → respond n t r .1 .number ≡ n
 unfolding respond refused
 respond-number zero t r e = e
 respond-number (suc n) t r e = refl
@@ -43,13 +44,13 @@ first-le k (c ∷ cs) h = pick (c .applies) (first-le k cs (h .1))
     pick true l = h .0
     pick false l = l
 
-checks-le : (o : Op) (s : Supply) (f : Frame) (g t : Party) → Each (λ (c : Check). c .number ≤ NO-NODES) (checks o s f g t)
-unfolding checks _if_
-checks-le o s f g t = omega arith
+checks-le : (o : Op) (s : Supply) (f : Frame) (x : Seen) → Each (λ (c : Check). c .number ≤ NO-NODES) (checks o s f x)
+unfolding entryChecks findChecks earlierChecks nodesCheck checks _if_
+checks-le o s f x = omega arith
 
 -- a frame is answered 0 to 10
 pub number-le : (s : Supply) (f : Frame) (t : Table) → serve s f t .1 .number ≤ NO-NODES
-number-le s f t = rw serve-number (first-le NO-NODES (checks (opOf f) s f _ _) (checks-le (opOf f) s f _ _))
+number-le s f t = rw serve-number (first-le NO-NODES (checks (opOf f) s f _) (checks-le (opOf f) s f _))
 
 -- ---- refusals
 
@@ -94,26 +95,17 @@ pub drop-le : (b n : ℕ) → dropFresh b n ≤ height b n + 1
 unfolding dropFresh
 drop-le b n = cond-le (eqb n 1) (omega arith) (cond-le (leb 1 (height b n) && eqb (n - 1) (degree b ^ height b n)) (omega arith) (many-le (height b n + 1) _))
 
-pub cost-le : (o : Op) (v : Version) → (cost o v .fresh ≤ cost o v .charge) × (cost o v .charge ≤ suc wordWidth)
+price-le : (p : Price) (b n : ℕ) → (priced p b n .fresh ≤ priced p b n .charge) × (priced p b n .charge ≤ suc wordWidth)
+unfolding priced
+price-le noNodes b n = omega arith
+price-le emptyLeaf b n = omega arith
+price-le pathSet b n = omega (arith, height-le b n)
+price-le pathPushed b n = omega (arith, height-le b (n + 1))
+price-le pathDropped b n = omega (arith, height-le b n, drop-le b n)
+
+pub cost-le : (o : Op) (b n : ℕ) → (cost o b n .fresh ≤ cost o b n .charge) × (cost o b n .charge ≤ suc wordWidth)
 unfolding cost
-cost-le new v = omega arith
-cost-le push-back v = omega (arith, height-le (v .bits) (length (v .items) + 1))
-cost-le set-at v = omega (arith, height-le (v .bits) (length (v .items)))
-cost-le drop-last v = omega (arith, height-le (v .bits) (length (v .items)), drop-le (v .bits) (length (v .items)))
-cost-le clone v = omega arith
-cost-le release v = omega arith
-cost-le len v = omega arith
-cost-le get v = omega arith
-cost-le open-walk v = omega arith
-cost-le next v = omega arith
-cost-le next-back v = omega arith
-cost-le close-walk v = omega arith
-cost-le hand-over v = omega arith
-cost-le free-nodes v = omega arith
-cost-le first v = omega arith
-cost-le last v = omega arith
-cost-le compare v = omega arith
-cost-le unknown v = omega arith
+cost-le o b n = price-le (uses o .price) b n
 
 respond-fresh : (n : ℕ) (t : Party) (r : Party × Answer) → respond n t r .1 .fresh ≤ r .1 .fresh
 unfolding respond refused
@@ -123,4 +115,4 @@ respond-fresh (suc n) t r = omega arith
 -- fresh is at most 33, on any table at all, so it fits its byte
 pub fresh-le : (s : Supply) (f : Frame) (t : Table) → serve s f t .1 .fresh ≤ suc wordWidth
 unfolding serve step
-fresh-le s f t = le-trans (respond-fresh _ _ _) (omega (arith, cost-le (opOf f) (sourceOf (partyAt t (giver f)) f)))
+fresh-le s f t = let x = seenBy f (partyAt t (giver f)) (partyAt t (taker f)) in le-trans (respond-fresh _ _ _) (omega (arith, cost-le (opOf f) (x .bits) (x .length)))

@@ -3,6 +3,7 @@ pub mod Heights
 pub mod Figures
 pub mod Sessions
 pub mod Lines
+pub mod Booleans
 pub mod Lists
 pub mod Sums
 pub mod Rows

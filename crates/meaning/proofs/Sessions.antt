@@ -7,12 +7,13 @@ use lib.ListN.{replicate, length}
 use Rattle.meaning.specs.Limits.{maxLength}
 use Rattle.meaning.specs.Counting.{sumTo, howMany, divides}
 use Rattle.meaning.specs.Shape.{degree, bitsToWrite, ifLeft, levels, height}
-use Rattle.meaning.specs.Table.{Version, empty, live, closed, Table, freshParty, freshTable, partyAt, slotAt, walkAt, isLive, isOpen, emptyVersion, version, rest, putSlot, putWalk}
+use Rattle.meaning.specs.Table.{Version, empty, live, closed, Table, freshParty, freshTable, partyAt, slotAt, walkAt, isLive, isOpen, version, rest, putSlot, putWalk}
 use Rattle.meaning.specs.Frames.{fromBytes, toBytes, decode, encode}
 use Rattle.meaning.specs.Operations.{operations, opOf, anyone, hostAlone, uses, ownerOr, giver, taker}
-use Rattle.meaning.specs.Costs.{dropFresh, plain, newCost, pushCost, setCost, dropCost, cost}
-use Rattle.meaning.specs.Checks.{nodes, isShort, noFault, faults, anyField, isEmpty, nothingThere, isFull, sourceOf, leftOf, _if_, checks, firstOf}
-use Rattle.meaning.specs.Effects.{firstItem, lastItem, withoutFirst, withoutLast, order, signed, fill, freeOf, effect}
+use Rattle.meaning.specs.Costs.{dropFresh, plain, newCost, pushCost, setCost, dropCost, priced, cost}
+use Rattle.meaning.specs.Supply.{allFree, isShort}
+use Rattle.meaning.specs.Checks.{noFault, faults, anyField, nothingThere, isFull, _if_, entryChecks, findChecks, earlierChecks, nodesCheck, checks, firstOf, sourceOf, leftOf, seenBy}
+use Rattle.meaning.specs.Effects.{firstItem, lastItem, withoutFirst, withoutLast, order, signed, fill, effect}
 use Rattle.meaning.specs.Serve.{refused, respond, step, serve, Reply, run}
 
 -- ---- sessions, as the program writes them
@@ -28,10 +29,10 @@ frame with free = record { free = free; frame = frame }
 
 -- the answers, 12 digits each, of a session from table t
 unfoldable pub session : Table → List Line → List ℕ
-unfolding _with_ sumTo howMany divides degree bitsToWrite ifLeft levels height leadingZeros freshParty freshTable partyAt slotAt walkAt isLive isOpen emptyVersion version rest putSlot putWalk fromBytes toBytes decode encode operations opOf anyone hostAlone uses ownerOr giver taker dropFresh plain newCost pushCost setCost dropCost cost isShort noFault faults anyField isEmpty nothingThere isFull sourceOf leftOf _if_ checks firstOf firstItem lastItem withoutFirst withoutLast order signed fill freeOf effect refused respond step serve run
+unfolding _with_ sumTo howMany divides degree bitsToWrite ifLeft levels height leadingZeros freshParty freshTable partyAt slotAt walkAt isLive isOpen version rest putSlot putWalk fromBytes toBytes decode encode operations opOf anyone hostAlone uses ownerOr giver taker dropFresh plain newCost pushCost setCost dropCost priced cost isShort noFault faults anyField nothingThere isFull _if_ entryChecks findChecks earlierChecks nodesCheck checks firstOf sourceOf leftOf seenBy firstItem lastItem withoutFirst withoutLast order signed fill effect refused respond step serve run
 session t ls =
     map (λ (r : Reply). fromBytes (encode (r .answer)) 0)
-    (run (map (λ (l : Line). record { supply = nodes (l .free); frame = decode (toBytes 12 (l .frame)) }) ls) t .1)
+    (run (map (λ (l : Line). record { supply = allFree (l .free); frame = decode (toBytes 12 (l .frame)) }) ls) t .1)
 
 -- The example session of document 01.
 pub example

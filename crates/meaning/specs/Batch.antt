@@ -8,7 +8,8 @@ use Rattle.meaning.specs.Limits.{frameSize, answerSize, DONE, ILL-FORMED
 use Rattle.meaning.specs.Counting.{divides}
 use Rattle.meaning.specs.Table.{Table}
 use Rattle.meaning.specs.Frames.{decode, encode}
-use Rattle.meaning.specs.Checks.{Supply, Check, _if_, firstOf}
+use Rattle.meaning.specs.Supply.{Supply}
+use Rattle.meaning.specs.Checks.{Check, _if_, firstOf}
 use Rattle.meaning.specs.Serve.{Call, Reply, run}
 
 -- batch checks run 13, 12, 11

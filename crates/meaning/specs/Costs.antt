@@ -2,11 +2,9 @@
 use mathlib.Core.Bool.{Bool, cond, not, _&&_}
 use Prim.Native.Nat.{ℕ, _+_, _-_, _^_}
 use lib.Dec.{leb, eqb}
-use lib.ListN.{length}
 use Rattle.meaning.specs.Counting.{howMany, divides}
 use Rattle.meaning.specs.Shape.{degree, height}
-use Rattle.meaning.specs.Table.{Version}
-use Rattle.meaning.specs.Operations.{Op, new, clone, release, len, get, set-at, push-back, drop-last, open-walk, next, next-back, close-walk, hand-over, free-nodes, first, last, compare, unknown}
+use Rattle.meaning.specs.Operations.{Op, Price, noNodes, emptyLeaf, pathSet, pathPushed, pathDropped, uses}
 
 -- h is 1 or more and n - 1 = d ^ h: a drop leaves the root one child, which takes its place
 abbrev pub losesRoot : (bits n : ℕ) → Bool
@@ -44,24 +42,15 @@ setCost bits n = plain (height bits n + 1)
 unfoldable pub dropCost : (bits length : ℕ) → Cost
 dropCost bits n = record { fresh = dropFresh bits n; charge = height bits n + 1 }
 
--- by operation and source version
-unfoldable pub cost : Op → Version → Cost
+unfoldable pub priced : Price → (bits length : ℕ) → Cost
 unfolding plain newCost pushCost setCost dropCost
-cost new v = newCost
-cost push-back v = pushCost (v .bits) (length (v .items))
-cost set-at v = setCost (v .bits) (length (v .items))
-cost drop-last v = dropCost (v .bits) (length (v .items))
-cost clone v = plain 0
-cost release v = plain 0
-cost len v = plain 0
-cost get v = plain 0
-cost open-walk v = plain 0
-cost next v = plain 0
-cost next-back v = plain 0
-cost close-walk v = plain 0
-cost hand-over v = plain 0
-cost free-nodes v = plain 0
-cost first v = plain 0
-cost last v = plain 0
-cost compare v = plain 0
-cost unknown v = plain 0
+priced noNodes b n = plain 0
+priced emptyLeaf b n = newCost
+priced pathSet b n = setCost b n
+priced pathPushed b n = pushCost b n
+priced pathDropped b n = dropCost b n
+
+-- of an operation
+unfoldable pub cost : Op → (bits length : ℕ) → Cost
+unfolding priced
+cost o b n = priced (uses o .price) b n

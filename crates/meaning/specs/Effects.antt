@@ -8,7 +8,7 @@ use Rattle.meaning.specs.Limits.{wordWidth}
 use Rattle.meaning.specs.Table.{Version, empty, live, closed, taking, Party, slotAt, version, putSlot, putWalk}
 use Rattle.meaning.specs.Frames.{Frame}
 use Rattle.meaning.specs.Operations.{Op, new, clone, release, len, get, set-at, push-back, drop-last, open-walk, next, next-back, close-walk, hand-over, free-nodes, first, last, compare, unknown}
-use Rattle.meaning.specs.Checks.{Supply, unlimited, nodes}
+use Rattle.meaning.specs.Supply.{Supply}
 
 -- ---- on lists
 
@@ -46,11 +46,6 @@ signed after = 1
 unfoldable pub fill : Party → Frame → (bits : ℕ) → List ℕ → Party
 fill t f b xs = putSlot t (f .destination) (live (record { bits = b; items = xs }))
 
--- what 0D answers: N less the nodes reached
-unfoldable pub freeOf : Supply → ℕ
-freeOf unlimited = 0
-freeOf (nodes free) = free
-
 -- Given the source version, what is left of the walk, and the taker's slots and walks: the taker's afterwards, and the value answered.
 unfoldable pub effect : Op → Supply → Frame → (source : Version) → (left : List ℕ) → (taker : Party) → Party × ℕ
 effect new s f v w t = (fill t f (f .index) [], 0)
@@ -66,7 +61,7 @@ effect next s f v w t = (putWalk t (f .slot) (taking (withoutFirst w)), firstIte
 effect next-back s f v w t = (putWalk t (f .slot) (taking (withoutLast w)), lastItem w)
 effect close-walk s f v w t = (putWalk t (f .slot) closed, 0)
 effect hand-over s f v w t = (fill t f (v .bits) (v .items), 0)
-effect free-nodes s f v w t = (t, freeOf s)
+effect free-nodes s f v w t = (t, s .free)
 effect first s f v w t = (t, firstItem (v .items))
 effect last s f v w t = (t, lastItem (v .items))
 effect compare s f v w t = (t, signed (order (v .items) (version (slotAt t (f .destination)) .items)))

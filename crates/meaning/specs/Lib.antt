@@ -13,6 +13,7 @@ pub mod Stands
 pub mod Frames
 pub mod Operations
 pub mod Costs
+pub mod Supply
 pub mod Checks
 pub mod Effects
 pub mod Serve

@@ -1,4 +1,4 @@
--- The operations 00 to 10 hexadecimal, and the one list of which fields each of them uses and what for.
+-- The operations 00 to 10 hexadecimal, and the one list of what each of them uses, needs and costs.
 use mathlib.Core.Bool.{Bool, true, false}
 use mathlib.Core.List.{List, [], _∷_}
 use Prim.Native.Nat.{ℕ}
@@ -39,7 +39,15 @@ pub data Want : Type 0 where
   itemLeft : Want  -- a walk that has not ended
   room : Want  -- a source of length below the limit
 
--- Who may ask for an operation, what its four fields are, and what it needs to find.
+-- What an operation costs in nodes; how many each price is stands in Costs.
+pub data Price : Type 0 where
+  noNodes : Price
+  emptyLeaf : Price
+  pathSet : Price  -- the way to an element, with another element there
+  pathPushed : Price  -- the way to a new last element
+  pathDropped : Price  -- the way to the last element, without it
+
+-- Who may ask for an operation, what its four fields are, what it needs to find, and its price.
 pub record Uses : Type 0 where
   pub hostOnly : Bool
   pub slot : Role
@@ -47,34 +55,35 @@ pub record Uses : Type 0 where
   pub index : Role
   pub value : Role
   pub wants : Want
+  pub price : Price
 
 -- by slot, destination, index and value
-unfoldable pub anyone : Role → Role → Role → Role → Want → Uses
-anyone s d i v w = record { hostOnly = false; slot = s; destination = d; index = i; value = v; wants = w }
+unfoldable pub anyone : Role → Role → Role → Role → Want → Price → Uses
+anyone s d i v w p = record { hostOnly = false; slot = s; destination = d; index = i; value = v; wants = w; price = p }
 
-unfoldable pub hostAlone : Role → Role → Role → Role → Want → Uses
-hostAlone s d i v w = record { hostOnly = true; slot = s; destination = d; index = i; value = v; wants = w }
+unfoldable pub hostAlone : Role → Role → Role → Role → Want → Price → Uses
+hostAlone s d i v w p = record { hostOnly = true; slot = s; destination = d; index = i; value = v; wants = w; price = p }
 
 unfoldable pub uses : Op → Uses
 unfolding anyone hostAlone
-uses new = anyone unused filled bits unused nothing
-uses clone = anyone source filled unused unused nothing
-uses release = anyone source unused unused unused nothing
-uses len = anyone source unused unused unused nothing
-uses get = anyone source unused position unused itemAtIndex
-uses set-at = anyone source filled position element itemAtIndex
-uses push-back = anyone source filled unused element room
-uses drop-last = anyone source filled unused unused anItem
-uses open-walk = anyone source opened unused unused nothing
-uses next = anyone walked unused unused unused itemLeft
-uses next-back = anyone walked unused unused unused itemLeft
-uses close-walk = anyone walked unused unused unused nothing
-uses hand-over = hostAlone source filled owner owner nothing
-uses free-nodes = hostAlone unused unused unused unused nothing
-uses first = anyone source unused unused unused anItem
-uses last = anyone source unused unused unused anItem
-uses compare = anyone source source unused unused nothing
-uses unknown = anyone unused unused unused unused nothing
+uses new = anyone unused filled bits unused nothing emptyLeaf
+uses clone = anyone source filled unused unused nothing noNodes
+uses release = anyone source unused unused unused nothing noNodes
+uses len = anyone source unused unused unused nothing noNodes
+uses get = anyone source unused position unused itemAtIndex noNodes
+uses set-at = anyone source filled position element itemAtIndex pathSet
+uses push-back = anyone source filled unused element room pathPushed
+uses drop-last = anyone source filled unused unused anItem pathDropped
+uses open-walk = anyone source opened unused unused nothing noNodes
+uses next = anyone walked unused unused unused itemLeft noNodes
+uses next-back = anyone walked unused unused unused itemLeft noNodes
+uses close-walk = anyone walked unused unused unused nothing noNodes
+uses hand-over = hostAlone source filled owner owner nothing noNodes
+uses free-nodes = hostAlone unused unused unused unused nothing noNodes
+uses first = anyone source unused unused unused anItem noNodes
+uses last = anyone source unused unused unused anItem noNodes
+uses compare = anyone source source unused unused nothing noNodes
+uses unknown = anyone unused unused unused unused nothing noNodes
 
 -- ---- whose slots and walks a frame names: the caller's own, but for hand-over
 

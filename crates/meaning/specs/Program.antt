@@ -7,7 +7,7 @@ use lib.ListN.{length}
 use Rattle.meaning.specs.Limits.{frameSize, NOT-A-FRAME}
 use Rattle.meaning.specs.Table.{Table, freshTable}
 use Rattle.meaning.specs.Frames.{Frame, Answer, decode, encode}
-use Rattle.meaning.specs.Checks.{Supply}
+use Rattle.meaning.specs.Supply.{Supply}
 use Rattle.meaning.specs.Serve.{refused, serve}
 
 abbrev pub lineFeed : ℕ

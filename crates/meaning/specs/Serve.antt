@@ -7,7 +7,8 @@ use Rattle.meaning.specs.Table.{Party, Table, partyAt}
 use Rattle.meaning.specs.Frames.{Frame, Answer}
 use Rattle.meaning.specs.Operations.{opOf, giver, taker}
 use Rattle.meaning.specs.Costs.{cost}
-use Rattle.meaning.specs.Checks.{Supply, sourceOf, leftOf, checks, firstOf}
+use Rattle.meaning.specs.Supply.{Supply}
+use Rattle.meaning.specs.Checks.{sourceOf, leftOf, seenBy, checks, firstOf}
 use Rattle.meaning.specs.Effects.{effect}
 
 -- ---- one frame
@@ -25,9 +26,9 @@ respond (suc n) t done = (t, refused (suc n))
 unfoldable pub step : Supply → Frame → (giver taker : Party) → Party × Answer
 step s f g t =
     let o = opOf f in
-    let v = sourceOf g f in
-    let e = effect o s f v (leftOf g f) t in
-    respond (firstOf (checks o s f g t)) t (e .0, record { number = DONE; fresh = cost o v .fresh; value = e .1 })
+    let x = seenBy f g t in
+    let e = effect o s f (sourceOf g f) (leftOf g f) t in
+    respond (firstOf (checks o s f x)) t (e .0, record { number = DONE; fresh = cost o (x .bits) (x .length) .fresh; value = e .1 })
 
 -- on the table
 unfoldable pub serve : Supply → Frame → Table → Table × Answer

@@ -3,7 +3,7 @@ use mathlib.Core.Bool.{Bool, true, false}
 use mathlib.Core.List.{List, []}
 use Prim.Native.Nat.{ℕ}
 use lib.ListN.{getD, set, replicate}
-use Rattle.meaning.specs.Limits.{parties, partySlots, partyWalks, defaultBits}
+use Rattle.meaning.specs.Limits.{parties, partySlots, partyWalks}
 
 pub record Version : Type 0 where
   pub bits : ℕ
@@ -51,11 +51,8 @@ unfoldable pub isOpen : Walk → Bool
 isOpen closed = false
 isOpen (taking rest) = true
 
-unfoldable pub emptyVersion : (bits : ℕ) → Version
-emptyVersion bits = record { bits = bits; items = [] }
-
 unfoldable pub version : Slot → Version
-version empty = emptyVersion defaultBits
+version empty = record { bits = 0; items = [] }
 version (live v) = v
 
 -- the values not yet taken

@@ -1,6 +1,6 @@
 -- The flags of an operation say of its fields what the checks 1 to 6 ask.
 use mathlib.Core.Path.{_≡_, refl, sym, ap, _∙_}
-use mathlib.Core.Bool.{Bool, cond, not, _&&_, _||_}
+use mathlib.Core.Bool.{Bool, true, false, cond, not, _&&_, _||_}
 use mathlib.Core.List.{[], _∷_, map}
 use Prim.Native.Nat.{ℕ, zero, suc, _+_, _≤_}
 use mathlib.Core.Logic.{_≢_}
@@ -13,9 +13,9 @@ use lib.ListN.{length, getD, List·getD-map, List·getD-eq-default}
 use Rattle.meaning.specs.Limits.{DONE, lastParty, lastSlot, lastWalk, lastOperation, host, NO-PARTY, NO-OPERATION, HOST-ONLY, OUT-OF-RANGE, EMPTY-SOURCE, LIVE-TARGET}
 use Rattle.meaning.specs.Frames.{Frame}
 use Rattle.meaning.specs.Operations.{Op, new, clone, release, len, get, set-at, push-back, drop-last, open-walk, next, next-back, close-walk, hand-over, free-nodes, first, last, compare, unknown, operations, opOf, anyone, hostAlone, uses, ownerOr, giver, taker}
-use Rattle.meaning.specs.Checks.{_if_, firstOf}
+use Rattle.meaning.specs.Checks.{Standing, noFault, faults, anyField, _if_, entryChecks, firstOf}
+use Rattle.meaning.proofs.Booleans.{or-none}
 use Rattle.requests.specs.Numbers.{HAND-OVER}
-use Rattle.frames.specs.Seen.{Standing, isOut, isMissing, isOtherMissing, isTaken, entryChecks}
 use Rattle.refusals.specs.Flags.{SOURCE, WALKED, FILLED, OPENED, OTHER, OWNERS, HOST-ALONE, flagOf, flagsOf}
 
 -- ---- the table of flags
@@ -107,25 +107,25 @@ flag-checks : (o : Op) (f : Frame) (x : Standing)
     ∷ (LIVE-TARGET if liveTarget u (standsBy u OPENED (x .openedOpen) (x .targetLive)))
     ∷ [])
     ≡ entryChecks o f x
-unfolding entryChecks isOut isMissing isOtherMissing isTaken flagsOf flagOf uses anyone hostAlone
-flag-checks new f x = refl
-flag-checks clone f x = refl
-flag-checks release f x = refl
-flag-checks len f x = refl
-flag-checks get f x = refl
-flag-checks set-at f x = refl
-flag-checks push-back f x = refl
-flag-checks drop-last f x = refl
-flag-checks open-walk f x = refl
-flag-checks next f x = refl
-flag-checks next-back f x = refl
-flag-checks close-walk f x = refl
-flag-checks hand-over f x = refl
-flag-checks free-nodes f x = refl
-flag-checks first f x = refl
-flag-checks last f x = refl
-flag-checks compare f x = refl
-flag-checks unknown f x = refl
+unfolding entryChecks anyField faults noFault flagsOf flagOf uses anyone hostAlone
+flag-checks new f x = simp or-none
+flag-checks clone f x = simp or-none
+flag-checks release f x = simp or-none
+flag-checks len f x = simp or-none
+flag-checks get f x = simp or-none
+flag-checks set-at f x = simp or-none
+flag-checks push-back f x = simp or-none
+flag-checks drop-last f x = simp or-none
+flag-checks open-walk f x = simp or-none
+flag-checks next f x = simp or-none
+flag-checks next-back f x = simp or-none
+flag-checks close-walk f x = simp or-none
+flag-checks hand-over f x = simp or-none
+flag-checks free-nodes f x = simp or-none
+flag-checks first f x = simp or-none
+flag-checks last f x = simp or-none
+flag-checks compare f x = simp or-none
+flag-checks unknown f x = simp or-none
 
 pub refusal-is : (f : Frame) (x : Standing) (u s d r₆ r₅ r₄ r₃ r₂ r₁ : ℕ) (live filled : Bool) → u ≡ flagsOf (opOf f)
     → s ≡ lastBy u WALKED

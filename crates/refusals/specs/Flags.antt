@@ -2,7 +2,7 @@
 use mathlib.Core.Bool.{Bool, cond}
 use Prim.Native.Nat.{ℕ, _+_}
 use Rattle.meaning.specs.Operations.{Op, Role, unused, source, filled, walked, opened, owner, bits, position, element, uses}
-use Rattle.frames.specs.Seen.{Standing}
+use Rattle.meaning.specs.Checks.{Standing}
 
 abbrev pub standing : (sourceLive targetLive walkOpen openedOpen : Bool) → Standing
 standing s t w o = record { sourceLive = s; targetLive = t; walkOpen = w; openedOpen = o }

@@ -6,8 +6,7 @@ ghost use mathlib.Core.Bool.{cond};
 ghost use Rattle.meaning.specs.Limits.{lastSlot, lastWalk};
 ghost use Rattle.meaning.specs.Operations as meaning;
 ghost use Rattle.meaning.specs.Operations.{opOf};
-ghost use Rattle.meaning.specs.Checks.{firstOf};
-ghost use Rattle.frames.specs.Seen.{entryChecks};
+ghost use Rattle.meaning.specs.Checks.{entryChecks, firstOf};
 ghost use Rattle.requests.specs.Requests.{frameOf};
 ghost use Rattle.refusals.specs.Flags.{standing, flagsOf};
 

@@ -12,6 +12,7 @@ use Rattle.meaning.specs.Limits.{parties, partySlots, partyWalks}
 use Rattle.meaning.specs.Lent.{VersionRecord, emptyRecord, WalkSlices, walkRecord}
 use Rattle.meaning.specs.Frames.{Frame}
 use Rattle.meaning.specs.Operations.{unknown, operations, opOf, anyone, uses, ownerOr, giver}
+use Rattle.meaning.proofs.Booleans.{both-true, both-below}
 use Rattle.records.specs.Records.{recordOf}
 use Rattle.records.specs.declared.Version.{Version}
 use Rattle.shape.specs.Legal.{Legal}
@@ -25,19 +26,16 @@ use Rattle.serving.specs.States.{Runs}
 use Rattle.serving.proofs.Seeing.{version-here, walk-here, version-legal, walk-legal, live-is, open-is}
 use Rattle.answering.proofs.Calling.{place-here}
 use Rattle.runs.specs.Runs.{runOf, Progress, progress, runFrom, Repeatable, Repeats, Going}
-use Rattle.runs.proofs.Repeating.{both, either, Way, open-in, run-splits, run-runs, gets-run, steps-run}
+use Rattle.runs.proofs.Repeating.{either, Way, open-in, run-splits, run-runs, gets-run, steps-run}
 
 -- ---- places that are there
-
-both-below : (p n l : ℕ) → ltb p parties && ltb n l ≡ true → (p < parties) × (n < l)
-both-below p n l e = let x = both (ltb p parties) (ltb n l) e in (ltb-true _ _ (x .0), ltb-true _ _ (x .1))
 
 -- an opened walk is there
 open-told : (numbers : List ℕ) (p n : ℕ) → isOpenAt numbers p n ≡ true → (p < parties) × (n < partyWalks) × (numberAt numbers (walkPlace p n) 0 ≡ 1)
 open-told numbers p n e = pick (ltb p parties && ltb n partyWalks) refl e
   where
     pick : (b : Bool) → ltb p parties && ltb n partyWalks ≡ b → cond b (eqb (numberAt numbers (walkPlace p n) 0) 1) false ≡ true → (p < parties) × (n < partyWalks) × (numberAt numbers (walkPlace p n) 0 ≡ 1)
-    pick true h q = let x = both-below p n partyWalks h in (x .0, x .1, eqb-true _ _ q)
+    pick true h q = let x = both-below p n parties partyWalks h in (x .0, x .1, eqb-true _ _ q)
     pick false h q = absurd (false≢true q)
 
 giver-gets : (f : Frame) → f .operation ≡ GET → giver f ≡ f .party
@@ -74,7 +72,7 @@ module _ (r : Run) (k : Runs r) where
     where
       legal : f .operation ≡ GET → ltb (f .party) parties && ltb (f .slot) partySlots ≡ true → v .live ≡ 1 → Legal (v .bits) (v .length)
       legal o there live =
-          let (lp, ln) = both-below (f .party) (f .slot) partySlots there in
+          let (lp, ln) = both-below (f .party) (f .slot) parties partySlots there in
           let same : versionIn r (f .party) (f .slot) ≡ v = source-is r f v o lp ln e in
           rw same at (version-runs (f .party) (f .slot) (ap (λ (w : VersionRecord). w .live) same ∙ live))
 
@@ -93,8 +91,8 @@ module _ (ws : WalkSlices) (f : Frame) (v : Version) (requests room : List ℕ) 
   module _ (there : Bool) (et : there ≡ ltb (f .party) parties && ltb (f .slot) partySlots) (t : eqb (f .operation) GET && there && eqb (v .live) 1 ≡ true) where
     gets-told : (f .operation ≡ GET) × (ltb (f .party) parties && ltb (f .slot) partySlots ≡ true) × (v .live ≡ 1)
     gets-told =
-        let x = both (eqb (f .operation) GET && there) (eqb (v .live) 1) t in
-        let y = both (eqb (f .operation) GET) there (x .0) in
+        let x = both-true (eqb (f .operation) GET && there) (eqb (v .live) 1) t in
+        let y = both-true (eqb (f .operation) GET) there (x .0) in
         (eqb-true _ _ (y .0), sym et ∙ y .1, eqb-true _ _ (x .1))
 
     pub gets-asked : Legal (v .bits) (v .length)
@@ -107,7 +105,7 @@ module _ (ws : WalkSlices) (f : Frame) (v : Version) (requests room : List ℕ) 
         serves : (s : Store) (vs : List VersionRecord) → s .nodes .cells ≡ cells → getD vs (placeOf (giver f) (f .slot)) emptyRecord ≡ recordOf v
             → progress (runOf s vs ws) roomAfter ≡ runFrom requests (end - k) (progress (runOf s vs ws) room) k
         serves s vs ec ev =
-            let (lp, ln) = both-below (f .party) (f .slot) partySlots (gets-told .1) in
+            let (lp, ln) = both-below (f .party) (f .slot) parties partySlots (gets-told .1) in
             let here : versionIn (runOf s vs ws) (f .party) (f .slot) ≡ recordOf v = source-is (runOf s vs ws) f (recordOf v) (gets-told .0) lp ln (sym ev) in
             let far : k + (end - k) ≡ end = omega (arith, g .row .from) in
             let ran = gets-run requests (runOf s vs ws) (f .party) (f .slot) v lp ln here (gets-told .2) (end - k) k room (λ i a b. g .row .all i a (omega arith)) in
@@ -118,7 +116,7 @@ module _ (ws : WalkSlices) (f : Frame) (v : Version) (requests room : List ℕ) 
   module _ (opened : Bool) (eo : opened ≡ isOpenAt (ws .numbers) (f .party) (f .slot)) (t : (eqb (f .operation) NEXT || eqb (f .operation) NEXT-BACK) && opened ≡ true) where
     steps-told : ((f .operation ≡ NEXT) ⊎ (f .operation ≡ NEXT-BACK)) × (isOpenAt (ws .numbers) (f .party) (f .slot) ≡ true)
     steps-told =
-        let x = both (eqb (f .operation) NEXT || eqb (f .operation) NEXT-BACK) opened t in
+        let x = both-true (eqb (f .operation) NEXT || eqb (f .operation) NEXT-BACK) opened t in
         (which (either (eqb (f .operation) NEXT) (eqb (f .operation) NEXT-BACK) (x .0)), sym eo ∙ x .1)
       where
         which : (eqb (f .operation) NEXT ≡ true) ⊎ (eqb (f .operation) NEXT-BACK ≡ true) → (f .operation ≡ NEXT) ⊎ (f .operation ≡ NEXT-BACK)

@@ -16,7 +16,8 @@ use Rattle.meaning.specs.Lent.{VersionRecord, emptyRecord, WalkSlices, WalkReco
 use Rattle.meaning.specs.Trees.{heightOf}
 use Rattle.meaning.specs.Frames.{Frame, Answer, encode}
 use Rattle.meaning.specs.Operations.{get, next, next-back, operations, opOf, anyone, uses, ownerOr, giver, taker}
-use Rattle.meaning.specs.Checks.{_if_, firstOf}
+use Rattle.meaning.specs.Checks.{noFault, faults, anyField, _if_, entryChecks, firstOf}
+use Rattle.meaning.proofs.Booleans.{both-true}
 use Rattle.records.specs.Records.{recordOf}
 use Rattle.records.specs.declared.Version.{Version}
 use Rattle.lookup.specs.Lookup.{elementIn, got}
@@ -27,8 +28,7 @@ use Rattle.walk.specs.Walk as walk
 use Rattle.walk.specs.Walk.{numberAt, isEnded, takenOf, takenBy}
 use Rattle.requests.specs.Requests.{put}
 use Rattle.requests.specs.Numbers.{GET, NEXT, NEXT-BACK}
-use Rattle.frames.specs.Run.{Run, walkPlace, versionIn, walkIn, sourceIn, walkedIn}
-use Rattle.frames.specs.Seen.{seenIn, isOut, isMissing, isOtherMissing, isTaken, entryChecks, findChecks}
+use Rattle.frames.specs.Run.{Run, walkPlace, versionIn, walkIn, sourceIn, walkedIn, seenIn, supplyIn}
 use Rattle.frames.specs.Serve.{done, verdict, respond, serve}
 use Rattle.edits.specs.Edits.{valued}
 use Rattle.calls.specs.Walks.{answerOf}
@@ -50,14 +50,14 @@ module _ (r : Run) (p n d i x : ℕ) where
   getFrame = record { party = p; operation = GET; slot = n; destination = d; index = i; value = x }
 
   get-enters : p < parties → n < partySlots → versionIn r p n .live ≡ 1 → firstOf (entryChecks get getFrame (seenIn r getFrame .standing)) ≡ DONE
-  unfolding entryChecks _if_ firstOf uses anyone isOut isMissing isOtherMissing isTaken seenIn giver ownerOr opOf operations
+  unfolding entryChecks _if_ firstOf uses anyone anyField faults noFault seenIn giver ownerOr opOf operations
   get-enters lp ln live = rw (le-ltb lastParty p (omega arith), le-ltb lastSlot n (omega arith), eq-eqb _ 1 live)
 
   pub get-serves : p < parties → n < partySlots → versionIn r p n .live ≡ 1 → i < versionIn r p n .length
       → let v = versionIn r p n in serve r getFrame ≡ (r, valued (elementIn (r .store .nodes .cells) (v .bits) (heightOf v) (v .root) i))
   unfolding serve verdict opOf operations giver ownerOr uses anyone got
   get-serves lp ln live li =
-      rw (entry-passes get getFrame (seenIn r getFrame) (get-enters lp ln live)) (get-turns r getFrame ∙ rw (lt-ltb i (versionIn r p n .length) li, stays r getFrame))
+      rw (entry-passes get (supplyIn r) getFrame (seenIn r getFrame) (get-enters lp ln live)) (get-turns r getFrame ∙ rw (lt-ltb i (versionIn r p n .length) li, stays r getFrame))
 
 -- ---- one step of a walk
 
@@ -75,23 +75,23 @@ module _ (r : Run) (p n d i x : ℕ) where
 
   module _ (lp : p < parties) (ln : n < partyWalks) (alive : walkIn r p n .version .live ≡ 1) where
     next-enters : firstOf (entryChecks next (stepFrame NEXT) (seenIn r (stepFrame NEXT) .standing)) ≡ DONE
-    unfolding entryChecks _if_ firstOf uses anyone isOut isMissing isOtherMissing isTaken seenIn giver ownerOr opOf operations
+    unfolding entryChecks _if_ firstOf uses anyone anyField faults noFault seenIn giver ownerOr opOf operations
     next-enters = rw (le-ltb lastParty p (omega arith), le-ltb lastWalk n (omega arith), eq-eqb _ 1 alive)
 
     next-back-enters : firstOf (entryChecks next-back (stepFrame NEXT-BACK) (seenIn r (stepFrame NEXT-BACK) .standing)) ≡ DONE
-    unfolding entryChecks _if_ firstOf uses anyone isOut isMissing isOtherMissing isTaken seenIn giver ownerOr opOf operations
+    unfolding entryChecks _if_ firstOf uses anyone anyField faults noFault seenIn giver ownerOr opOf operations
     next-back-enters = rw (le-ltb lastParty p (omega arith), le-ltb lastWalk n (omega arith), eq-eqb _ 1 alive)
 
     pub next-serves : Served NEXT false
     unfolding serve verdict opOf operations giver ownerOr uses anyone
     next-serves =
-        rw (entry-passes next (stepFrame NEXT) (seenIn r (stepFrame NEXT)) next-enters)
+        rw (entry-passes next (supplyIn r) (stepFrame NEXT) (seenIn r (stepFrame NEXT)) next-enters)
         (next-turns r (stepFrame NEXT) (walk-place-here p n lp ln) (walk-here r p n lp ln) ∙ rw (walk-place-here p n lp ln, stays r (stepFrame NEXT)))
 
     pub next-back-serves : Served NEXT-BACK true
     unfolding serve verdict opOf operations giver ownerOr uses anyone
     next-back-serves =
-        rw (entry-passes next-back (stepFrame NEXT-BACK) (seenIn r (stepFrame NEXT-BACK)) next-back-enters)
+        rw (entry-passes next-back (supplyIn r) (stepFrame NEXT-BACK) (seenIn r (stepFrame NEXT-BACK)) next-back-enters)
         (next-back-turns r (stepFrame NEXT-BACK) (walk-place-here p n lp ln) (walk-here r p n lp ln) ∙ rw (walk-place-here p n lp ln, stays r (stepFrame NEXT-BACK)))
 
 -- from either end
@@ -123,25 +123,21 @@ open-stays cells used back ws n = pick (isEnded (ws .numbers) n)
 
 -- ---- what the tests of a frame tell
 
-pub both : (a b : Bool) → a && b ≡ true → (a ≡ true) × (b ≡ true)
-both true b e = (refl, e)
-both false b e = absurd (false≢true e)
-
 pub either : (a b : Bool) → a || b ≡ true → (a ≡ true) ⊎ (b ≡ true)
 either true b e = inl refl
 either false b e = inr e
 
 get-told : (p n l : ℕ) (f : Frame) → isGet p n l f ≡ true → (f .party ≡ p) × (f .operation ≡ GET) × (f .slot ≡ n) × (f .index < l)
 get-told p n l f t =
-    let x = both (eqb (f .party) p && eqb (f .operation) GET && eqb (f .slot) n) (ltb (f .index) l) t in
-    let y = both (eqb (f .party) p && eqb (f .operation) GET) (eqb (f .slot) n) (x .0) in
-    let z = both (eqb (f .party) p) (eqb (f .operation) GET) (y .0) in
+    let x = both-true (eqb (f .party) p && eqb (f .operation) GET && eqb (f .slot) n) (ltb (f .index) l) t in
+    let y = both-true (eqb (f .party) p && eqb (f .operation) GET) (eqb (f .slot) n) (x .0) in
+    let z = both-true (eqb (f .party) p) (eqb (f .operation) GET) (y .0) in
     (eqb-true _ _ (z .0), eqb-true _ _ (z .1), eqb-true _ _ (y .1), ltb-true _ _ (x .1))
 
 step-told : (p o n : ℕ) (f : Frame) → isStep p o n f ≡ true → (f .party ≡ p) × (f .operation ≡ o) × (f .slot ≡ n)
 step-told p o n f t =
-    let x = both (eqb (f .party) p && eqb (f .operation) o) (eqb (f .slot) n) t in
-    let y = both (eqb (f .party) p) (eqb (f .operation) o) (x .0) in
+    let x = both-true (eqb (f .party) p && eqb (f .operation) o) (eqb (f .slot) n) t in
+    let y = both-true (eqb (f .party) p) (eqb (f .operation) o) (x .0) in
     (eqb-true _ _ (y .0), eqb-true _ _ (y .1), eqb-true _ _ (x .1))
 
 -- ---- frames in a row

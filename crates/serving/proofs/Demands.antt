@@ -16,7 +16,8 @@ use Rattle.meaning.specs.Table.{partyAt}
 use Rattle.meaning.specs.Stands.{tableOf}
 use Rattle.meaning.specs.Frames.{Frame, decode}
 use Rattle.meaning.specs.Operations.{opOf, giver, taker}
-use Rattle.meaning.specs.Checks.{unlimited, nodes, checks, firstOf}
+use Rattle.meaning.specs.Supply.{allFree, noLimit}
+use Rattle.meaning.specs.Checks.{checks, firstOf, seenBy}
 use Rattle.meaning.specs.Serve.{Call, run}
 use Rattle.meaning.specs.Batch.{batchChecks, callsIn, outcome, batch}
 use Rattle.meaning.proofs.Answers as answers
@@ -82,11 +83,12 @@ frame-answered s f w =
     }
 
 pub frame-short : (s : Lent) (f : Frame) → WellFormed s → ShortExactly s f
+unfolding seenBy
 frame-short s f w =
     let k : Runs (runIn s) = well-formed-runs s w in
-    let number : answer s f .number ≡ firstOf (checks (opOf f) (supplyOf s) f (partyAt (tableOf s) (giver f)) (partyAt (tableOf s) (taker f))) =
+    let number : answer s f .number ≡ firstOf (checks (opOf f) (supplyOf s) f (seenBy f (partyAt (tableOf s) (giver f)) (partyAt (tableOf s) (taker f)))) =
     serve-number (runIn s) f ∙ verdict-agrees (runIn s) f k in
-    rw (number, answers.serve-number unlimited f (tableOf s)) (short-exactly (opOf f) f (partyAt (tableOf s) (giver f)) (partyAt (tableOf s) (taker f)) (freeNodes (s .nodes)))
+    rw (number, answers.serve-number noLimit f (tableOf s)) (short-exactly (opOf f) f (seenBy f (partyAt (tableOf s) (giver f)) (partyAt (tableOf s) (taker f))) (freeNodes (s .nodes)))
 
 -- ---- frames in order
 
@@ -95,7 +97,7 @@ unfolding calls callsFrom
 calls-are r [] k = refl
 calls-are r (f ∷ fs) k =
     let one = frame-serves r f k in
-    rw (run-again r k, free-carried r k) (ap (λ (cs : List Call). record { supply = nodes (r .store .free); frame = f } ∷ cs) (calls-are (serve r f .0) fs (one .runs)))
+    rw (run-again r k, free-carried r k) (ap (λ (cs : List Call). record { supply = allFree (r .store .free); frame = f } ∷ cs) (calls-are (serve r f .0) fs (one .runs)))
 
 pub all-answered : (s : Lent) (fs : List Frame) → WellFormed s → AllAnswered s fs
 all-answered s fs w =

@@ -3,18 +3,18 @@ use mathlib.Core.Path.{_≡_, refl, sym, _∙_}
 use mathlib.Core.Logic.{_≢_}
 use mathlib.Core.Bool.{Bool, true, false, cond, _||_, false≢true}
 use mathlib.Core.List.{List, [], _∷_, _++_}
-use Prim.Native.Nat.{_<_}
+use Prim.Native.Nat.{ℕ, _<_}
 use native.Mathlib.Decide.{ℕ-discrete}
 use native.Mathlib.Omega.{arith}
-use lib.Dec.{ltb}
 use borrow.Author.Tests.{ltb-false}
-use Rattle.meaning.specs.Limits.{DONE, parties, lastParty, lastSlot}
+use Rattle.meaning.specs.Limits.{DONE, parties, lastParty}
 use Rattle.meaning.specs.Counting.{Each}
 use Rattle.meaning.specs.Frames.{Frame}
-use Rattle.meaning.specs.Operations.{Op, new, clone, release, len, get, set-at, push-back, drop-last, open-walk, next, next-back, close-walk, hand-over, free-nodes, first, last, compare, unknown, opOf, anyone, hostAlone, uses, ownerOr, giver, taker}
-use Rattle.meaning.specs.Checks.{Check, _if_, firstOf}
-use Rattle.frames.specs.Seen.{Standing, Seen, isOut, isMissing, isOtherMissing, entryChecks, findChecks, seenChecks}
-use Rattle.serving.specs.Passed.{Entered, Passed}
+use Rattle.meaning.specs.Operations.{Op, Role, unused, source, filled, walked, opened, owner, bits, position, element, Uses, uses, opOf, ownerOr, giver, taker}
+use Rattle.meaning.specs.Supply.{Supply}
+use Rattle.meaning.specs.Checks.{Standing, Seen, Faults, noFault, faults, anyField, Check, _if_, entryChecks, findChecks, earlierChecks, nodesCheck, checks, firstOf}
+use Rattle.meaning.proofs.Booleans.{both-false}
+use Rattle.serving.specs.Passed.{Entered, laterChecks, Passed}
 
 none-applies : (cs : List Check) → Each (λ (c : Check). c .number ≢ DONE) cs → firstOf cs ≡ DONE → Each (λ (c : Check). c .applies ≡ false) cs
 unfolding firstOf
@@ -30,9 +30,9 @@ entry-named : (o : Op) (f : Frame) (x : Standing) → Each (λ (c : Check). c .n
 unfolding entryChecks _if_
 entry-named o f x = omega arith
 
-find-named : (o : Op) (f : Frame) (x : Seen) → Each (λ (c : Check). c .number ≢ DONE) (findChecks o f x)
-unfolding findChecks _if_
-find-named o f x = omega arith
+later-named : (o : Op) (s : Supply) (f : Frame) (x : Seen) → Each (λ (c : Check). c .number ≢ DONE) (laterChecks o s f x)
+unfolding laterChecks findChecks nodesCheck _if_
+later-named o s f x = omega arith
 
 pub entered : (o : Op) (f : Frame) (x : Standing) → firstOf (entryChecks o f x) ≡ DONE → Entered o f x
 unfolding entryChecks _if_
@@ -44,10 +44,10 @@ pub enters : (o : Op) (f : Frame) (x : Standing) → Entered o f x → firstOf (
 unfolding entryChecks _if_ firstOf
 enters o f x p = rw (p .party, p .operation, p .allowed, p .range, p .source, p .target)
 
-finds : (o : Op) (f : Frame) (x : Seen) → Entered o f (x .standing) → firstOf (findChecks o f x) ≡ DONE → Passed o f x
-unfolding findChecks _if_
-finds o f x p e =
-    let (k, (l, (m, (n, _)))) = none-applies (findChecks o f x) (find-named o f x) e in
+later : (o : Op) (s : Supply) (f : Frame) (x : Seen) → Entered o f (x .standing) → firstOf (laterChecks o s f x) ≡ DONE → Passed o s f x
+unfolding laterChecks findChecks nodesCheck _if_
+later o s f x p e =
+    let (k, (l, (m, (n, _)))) = none-applies (laterChecks o s f x) (later-named o s f x) e in
     record { entered = p; bits = k; there = l; room = m; nodes = n }
 
 -- ---- the first six, then the other four
@@ -71,94 +71,74 @@ first-alone (c ∷ cs) ds e = pick (c .applies) e (λ k. first-alone cs ds k)
     pick true k rest = refl
     pick false k rest = rest k
 
-pub entry-passes : (o : Op) (f : Frame) (x : Seen) → firstOf (entryChecks o f (x .standing)) ≡ DONE → firstOf (seenChecks o f x) ≡ firstOf (findChecks o f x)
-unfolding seenChecks
-entry-passes o f x e = first-then (entryChecks o f (x .standing)) (findChecks o f x) e (entry-named o f (x .standing))
+pub entry-passes : (o : Op) (s : Supply) (f : Frame) (x : Seen) → firstOf (entryChecks o f (x .standing)) ≡ DONE → firstOf (checks o s f x) ≡ firstOf (laterChecks o s f x)
+unfolding checks earlierChecks entryChecks findChecks laterChecks
+entry-passes o s f x e = first-then (entryChecks o f (x .standing)) (laterChecks o s f x) e (entry-named o f (x .standing))
 
-pub entry-refuses : (o : Op) (f : Frame) (x : Seen) → firstOf (entryChecks o f (x .standing)) ≢ DONE → firstOf (seenChecks o f x) ≡ firstOf (entryChecks o f (x .standing))
-unfolding seenChecks
-entry-refuses o f x e = first-alone (entryChecks o f (x .standing)) (findChecks o f x) e
+pub entry-refuses : (o : Op) (s : Supply) (f : Frame) (x : Seen) → firstOf (entryChecks o f (x .standing)) ≢ DONE → firstOf (checks o s f x) ≡ firstOf (entryChecks o f (x .standing))
+unfolding checks earlierChecks entryChecks findChecks laterChecks
+entry-refuses o s f x e = first-alone (entryChecks o f (x .standing)) (laterChecks o s f x) e
 
 -- ---- all ten
 
-pub passed : (o : Op) (f : Frame) (x : Seen) → firstOf (seenChecks o f x) ≡ DONE → Passed o f x
-passed o f x e = pick (ℕ-discrete (firstOf (entryChecks o f (x .standing))) DONE)
+pub passed : (o : Op) (s : Supply) (f : Frame) (x : Seen) → firstOf (checks o s f x) ≡ DONE → Passed o s f x
+passed o s f x e = pick (ℕ-discrete (firstOf (entryChecks o f (x .standing))) DONE)
   where
-    pick : Dec (firstOf (entryChecks o f (x .standing)) ≡ DONE) → Passed o f x
-    pick (yes p) = finds o f x (entered o f (x .standing) p) (sym (entry-passes o f x p) ∙ e)
-    pick (no n) = absurd (n (sym (entry-refuses o f x n) ∙ e))
+    pick : Dec (firstOf (entryChecks o f (x .standing)) ≡ DONE) → Passed o s f x
+    pick (yes p) = later o s f x (entered o f (x .standing) p) (sym (entry-passes o s f x p) ∙ e)
+    pick (no n) = absurd (n (sym (entry-refuses o s f x n) ∙ e))
 
-pub passes : (o : Op) (f : Frame) (x : Seen) → Passed o f x → firstOf (seenChecks o f x) ≡ DONE
-unfolding findChecks _if_ firstOf
-passes o f x p = entry-passes o f x (enters o f (x .standing) (p .entered)) ∙ rw (p .bits, p .there, p .room, p .nodes)
+pub passes : (o : Op) (s : Supply) (f : Frame) (x : Seen) → Passed o s f x → firstOf (checks o s f x) ≡ DONE
+unfolding laterChecks findChecks nodesCheck _if_ firstOf
+passes o s f x p = entry-passes o s f x (enters o f (x .standing) (p .entered)) ∙ rw (p .bits, p .there, p .room, p .nodes)
 
--- ---- both or neither
+-- ---- what each field has been found to be
 
-pub or-first : (a b : Bool) → a || b ≡ false → a ≡ false
-or-first false b e = refl
-or-first true b e = e
+-- a fault that no field has
+pub record NoField (u : Uses) (f : Frame) (x : Standing) (fault : Faults → Bool) : Type 0 where
+  pub slot : fault (faults (u .slot) (f .slot) (x .sourceLive) (x .walkOpen)) ≡ false
+  pub destination : fault (faults (u .destination) (f .destination) (x .targetLive) (x .openedOpen)) ≡ false
+  pub index : fault (faults (u .index) (f .index) false false) ≡ false
+  pub value : fault (faults (u .value) (f .value) false false) ≡ false
 
-pub or-second : (a b : Bool) → a || b ≡ false → b ≡ false
-or-second false b e = e
-or-second true b e = absurd (false≢true (sym e))
+pub no-field : (u : Uses) (f : Frame) (x : Standing) (fault : Faults → Bool) → anyField u f x fault ≡ false → NoField u f x fault
+unfolding anyField
+no-field u f x fault e =
+    let a = fault (faults (u .slot) (f .slot) (x .sourceLive) (x .walkOpen)) in
+    let b = fault (faults (u .destination) (f .destination) (x .targetLive) (x .openedOpen)) in
+    let c = fault (faults (u .index) (f .index) false false) in
+    let d = fault (faults (u .value) (f .value) false false) in
+    let four = both-false (a || b || c) d e in
+    let three = both-false (a || b) c (four .0) in
+    let two = both-false a b (three .0) in
+    record { slot = two .0; destination = two .1; index = three .1; value = four .1 }
 
 -- ---- the parties that a frame names are there
 
-own-below : (o : Op) (f : Frame) (x : Standing) → Entered o f x → (ownerOr (uses o .index) (f .index) (f .party) < parties) × (ownerOr (uses o .value) (f .value) (f .party) < parties)
-unfolding uses anyone hostAlone ownerOr isOut
-own-below o f x p = by o p
-  where
-    party : f .party < parties
-    party = omega (arith, ltb-false lastParty (f .party) (p .party))
+owner-below : (o : Role) (n caller : ℕ) → faults o n false false .outOfRange ≡ false → caller < parties → ownerOr o n caller < parties
+unfolding faults noFault ownerOr
+owner-below owner n c e l = omega (arith, ltb-false lastParty n e)
+owner-below unused n c e l = l
+owner-below source n c e l = l
+owner-below filled n c e l = l
+owner-below walked n c e l = l
+owner-below opened n c e l = l
+owner-below bits n c e l = l
+owner-below position n c e l = l
+owner-below element n c e l = l
 
-    by : (o : Op) → Entered o f x → (ownerOr (uses o .index) (f .index) (f .party) < parties) × (ownerOr (uses o .value) (f .value) (f .party) < parties)
-    by new q = (party, party)
-    by clone q = (party, party)
-    by release q = (party, party)
-    by len q = (party, party)
-    by get q = (party, party)
-    by set-at q = (party, party)
-    by push-back q = (party, party)
-    by drop-last q = (party, party)
-    by open-walk q = (party, party)
-    by next q = (party, party)
-    by next-back q = (party, party)
-    by close-walk q = (party, party)
-    by hand-over q =
-        let three : ltb lastSlot (f .slot) || ltb lastSlot (f .destination) || ltb lastParty (f .index) ≡ false = or-first (ltb lastSlot (f .slot) || ltb lastSlot (f .destination) || ltb lastParty (f .index)) (ltb lastParty (f .value)) (q .range) in
-        let index : ltb lastParty (f .index) ≡ false = or-second (ltb lastSlot (f .slot) || ltb lastSlot (f .destination)) (ltb lastParty (f .index)) three in
-        let value : ltb lastParty (f .value) ≡ false = or-second (ltb lastSlot (f .slot) || ltb lastSlot (f .destination) || ltb lastParty (f .index)) (ltb lastParty (f .value)) (q .range) in
-        (omega (arith, ltb-false lastParty (f .index) index), omega (arith, ltb-false lastParty (f .value) value))
-    by free-nodes q = (party, party)
-    by first q = (party, party)
-    by last q = (party, party)
-    by compare q = (party, party)
-    by unknown q = (party, party)
+caller-below : (o : Op) (f : Frame) (x : Standing) → Entered o f x → f .party < parties
+caller-below o f x p = omega (arith, ltb-false lastParty (f .party) (p .party))
 
 pub giver-below : (f : Frame) (x : Standing) → Entered (opOf f) f x → giver f < parties
 unfolding giver
-giver-below f x p = own-below (opOf f) f x p .0
+giver-below f x p = owner-below (uses (opOf f) .index) (f .index) (f .party) (no-field (uses (opOf f)) f x _ (p .range) .index) (caller-below (opOf f) f x p)
 
 pub taker-below : (f : Frame) (x : Standing) → Entered (opOf f) f x → taker f < parties
 unfolding taker
-taker-below f x p = own-below (opOf f) f x p .1
+taker-below f x p = owner-below (uses (opOf f) .value) (f .value) (f .party) (no-field (uses (opOf f)) f x _ (p .range) .value) (caller-below (opOf f) f x p)
 
 -- a party's own call, known by its operation
 pub own-party : (f : Frame) (o : Op) → opOf f ≡ o → ownerOr (uses o .index) (f .index) (f .party) ≡ ownerOr (uses o .value) (f .value) (f .party) → giver f ≡ taker f
 unfolding giver taker
 own-party f o e h = rw e h
-
--- ---- what each field has been found to be
-
-module _ (o : Op) (f : Frame) (x : Standing) (p : Entered o f x) where
-  pub slot-range : isOut (uses o .slot) (f .slot) ≡ false
-  slot-range = or-first _ _ (or-first _ _ (or-first _ _ (p .range)))
-
-  pub destination-range : isOut (uses o .destination) (f .destination) ≡ false
-  destination-range = or-second (isOut (uses o .slot) (f .slot)) _ (or-first _ _ (or-first _ _ (p .range)))
-
-  pub slot-present : isMissing (uses o .slot) x ≡ false
-  slot-present = or-first _ _ (p .source)
-
-  pub other-present : isOtherMissing (uses o .destination) x ≡ false
-  other-present = or-second (isMissing (uses o .slot) x) _ (p .source)

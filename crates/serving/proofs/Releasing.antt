@@ -8,13 +8,12 @@ use Rattle.meaning.specs.Lent.{VersionRecord, emptyRecord}
 use Rattle.meaning.specs.Table.{empty, putSlot}
 use Rattle.meaning.specs.Frames.{Frame}
 use Rattle.meaning.specs.Operations.{release, anyone, uses, giver, taker}
-use Rattle.meaning.specs.Costs.{plain, cost}
+use Rattle.meaning.specs.Costs.{plain, priced, cost}
 use Rattle.meaning.specs.Effects.{effect}
 use Rattle.ledger.proofs.Releasing.{release-remains}
 use Rattle.upkeep.proofs.Emptying.{emptied-runs}
 use Rattle.upkeep.proofs.Stands.{emptied-table}
-use Rattle.frames.specs.Run.{Run, slotPlace, versionIn, sourceIn}
-use Rattle.frames.specs.Seen.{seenIn}
+use Rattle.frames.specs.Run.{Run, slotPlace, versionIn, sourceIn, seenIn, supplyIn}
 use Rattle.frames.specs.Serve.{empties, done, freshIn}
 use Rattle.serving.specs.States.{Runs, tableIn}
 use Rattle.serving.specs.Passed.{Passed}
@@ -46,8 +45,8 @@ module _ (r : Run) (f : Frame) (k : Runs r) (below : taker f < parties) (own : g
   empties-value = refl
 
 module _ (r : Run) (f : Frame) (k : Runs r) (below : taker f < parties) (own : giver f ≡ taker f) where
-  pub release-does : Passed release f (seenIn r f) → Does release r f
-  unfolding uses anyone done effect cost plain
+  pub release-does : Passed release (supplyIn r) f (seenIn r f) → Does release r f
+  unfolding uses anyone done effect cost priced plain
   release-does p =
       let within = source-within release r f k (p .entered) refl in
       let lives = source-lives release r f k (p .entered) refl in

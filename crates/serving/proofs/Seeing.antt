@@ -18,7 +18,6 @@ use Rattle.meaning.specs.WellFormed.{Live, LegalVersion, Open, LegalWalk}
 use Rattle.meaning.specs.Table.{empty, live, closed, taking, freshParty, partyAt, slotAt, isLive, isOpen, version, rest}
 use Rattle.meaning.specs.Table as table
 use Rattle.meaning.specs.Stands.{slotOf, leftBetween, walkOf, partyOf, tableOf}
-use Rattle.meaning.specs.Checks.{isEmpty}
 use Rattle.meaning.proofs.Lists.{replicate-at}
 use Rattle.meaning.proofs.Rows.{rows-length, rows-at}
 use Rattle.lookup.proofs.Found.{contents-length}
@@ -140,20 +139,15 @@ module _ (s : Nodes) where
   closed-is (inr o) f = absurd (f (o .version .live))
 
   pub length-seen : (v : VersionRecord) → LegalVersion s v → v .length ≡ length (version (slotOf s v) .items)
-  unfolding slotOf version table.emptyVersion
+  unfolding slotOf version
   length-seen v (inl d) = rw d
   length-seen v (inr l) = rw (eq-eqb (v .live) 1 (l .live)) (sym (contents-length s v))
 
-pub empty-length : (xs : List ℕ) → isEmpty xs ≡ eqb (length xs) 0
-unfolding isEmpty
-empty-length [] = refl
-empty-length (x ∷ xs) = sym (ne-eqb (suc (length xs)) 0 (λ e. lt-irrefl zero (omega arith)))
-
-pub ended-seen : (s : Nodes) (w : WalkRecord) → LegalWalk s w → eqb (w .front + w .back) (w .version .length) ≡ isEmpty (rest (walkOf s w))
-unfolding walkOf rest isEmpty
+pub ended-seen : (s : Nodes) (w : WalkRecord) → LegalWalk s w → eqb (w .front + w .back) (w .version .length) ≡ eqb (length (rest (walkOf s w))) 0
+unfolding walkOf rest
 ended-seen s w (inl d) = rw d
 ended-seen s w (inr o) =
-    rw (eq-eqb (w .version .live) 1 (o .version .live), empty-length, left-length (w .front) (w .back) (w .version .length) (contents s (w .version)) (contents-length s (w .version)) (o .taken))
+    rw (eq-eqb (w .version .live) 1 (o .version .live), left-length (w .front) (w .back) (w .version .length) (contents s (w .version)) (contents-length s (w .version)) (o .taken))
     (pick (decLt (w .front + w .back) (w .version .length)))
   where
     pick : Dec (w .front + w .back < w .version .length) → eqb (w .front + w .back) (w .version .length) ≡ eqb (w .version .length - w .front - w .back) 0

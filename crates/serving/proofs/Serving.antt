@@ -9,19 +9,18 @@ use lib.ListN.{set}
 use Rattle.meaning.specs.Limits.{DONE, parties}
 use Rattle.meaning.specs.Frames.{Frame, Answer}
 use Rattle.meaning.specs.Operations.{Op, new, clone, release, len, get, set-at, push-back, drop-last, open-walk, next, next-back, close-walk, hand-over, free-nodes, first, last, compare, unknown, anyone, uses, ownerOr, opOf, taker}
-use Rattle.meaning.specs.Costs.{cost}
-use Rattle.meaning.specs.Checks.{checks, firstOf}
+use Rattle.meaning.specs.Costs.{priced, cost}
+use Rattle.meaning.specs.Checks.{checks, firstOf, seenBy}
 use Rattle.meaning.specs.Serve.{refused, run}
 use Rattle.meaning.specs.Serve as plain
 use Rattle.meaning.proofs.Answers.{refused-same}
-use Rattle.frames.specs.Run.{Run}
-use Rattle.frames.specs.Seen.{seenIn}
+use Rattle.frames.specs.Run.{Run, seenIn, supplyIn}
 use Rattle.frames.specs.Serve.{done, verdict, freshIn, respond, serve}
-use Rattle.serving.specs.States.{Runs, tableIn, supplyIn}
+use Rattle.serving.specs.States.{Runs, tableIn}
 use Rattle.serving.specs.Passed.{Passed}
-use Rattle.serving.specs.Does.{giverIn, takerIn, versionFor, effectOn, Does}
+use Rattle.serving.specs.Does.{giverIn, takerIn, effectOn, Does}
 use Rattle.serving.specs.Served.{Serves, serveAll, callsFrom, ServesAll}
-use Rattle.serving.proofs.Agreeing.{verdict-agrees}
+use Rattle.serving.proofs.Agreeing.{seen-agrees, verdict-agrees}
 use Rattle.serving.proofs.Passing.{passed, taker-below, own-party}
 use Rattle.serving.proofs.Filling.{new-does, clone-does, hand-over-does, set-does, push-does, drop-does}
 use Rattle.serving.proofs.Releasing.{release-does}
@@ -30,14 +29,14 @@ use Rattle.serving.proofs.Reading.{len-does, get-does, first-does, last
 
 -- ---- a frame that passes its checks
 
-does : (r : Run) (f : Frame) → Runs r → Passed (opOf f) f (seenIn r f) → Does (opOf f) r f
+does : (r : Run) (f : Frame) → Runs r → Passed (opOf f) (supplyIn r) f (seenIn r f) → Does (opOf f) r f
 unfolding uses anyone ownerOr
 does r f k p = by (opOf f) refl p
   where
     below : taker f < parties
     below = taker-below f (seenIn r f .standing) (p .entered)
 
-    by : (o : Op) → opOf f ≡ o → Passed o f (seenIn r f) → Does o r f
+    by : (o : Op) → opOf f ≡ o → Passed o (supplyIn r) f (seenIn r f) → Does o r f
     by new e q = new-does r f k below q
     by clone e q = clone-does r f k below q
     by release e q = release-does r f k below (own-party f release e refl) q
@@ -66,8 +65,8 @@ serve-done : (r : Run) (f : Frame) → verdict r f ≡ DONE → serve r f ≡ (d
 unfolding serve respond
 serve-done r f e = rw e
 
-plain-done : (r : Run) (f : Frame) → firstOf (checks (opOf f) (supplyIn r) f (giverIn r f) (takerIn r f)) ≡ DONE
-    → plain.serve (supplyIn r) f (tableIn r) ≡ (set (tableIn r) (taker f) (effectOn (opOf f) r f .0), answered (cost (opOf f) (versionFor r f) .fresh) (effectOn (opOf f) r f .1))
+plain-done : (r : Run) (f : Frame) → firstOf (checks (opOf f) (supplyIn r) f (seenBy f (giverIn r f) (takerIn r f))) ≡ DONE
+    → plain.serve (supplyIn r) f (tableIn r) ≡ (set (tableIn r) (taker f) (effectOn (opOf f) r f .0), answered (cost (opOf f) (seenBy f (giverIn r f) (takerIn r f) .bits) (seenBy f (giverIn r f) (takerIn r f) .length) .fresh) (effectOn (opOf f) r f .1))
 unfolding plain.serve plain.step plain.respond
 plain-done r f e = rw e
 
@@ -85,15 +84,15 @@ pub frame-serves : (r : Run) (f : Frame) → Runs r → Serves r f
 unfolding verdict
 frame-serves r f k = pick (verdict r f) refl
   where
-    agrees : verdict r f ≡ firstOf (checks (opOf f) (supplyIn r) f (giverIn r f) (takerIn r f))
+    agrees : verdict r f ≡ firstOf (checks (opOf f) (supplyIn r) f (seenBy f (giverIn r f) (takerIn r f)))
     agrees = verdict-agrees r f k
 
     pick : (n : ℕ) → verdict r f ≡ n → Serves r f
     pick zero e =
-        let d = does r f k (passed (opOf f) f (seenIn r f) e) in
+        let d = does r f k (passed (opOf f) (supplyIn r) f (seenIn r f) e) in
         record {
           runs = rw (serve-done r f e) (d .runs);
-          plain = plain-done r f (sym agrees ∙ e) ∙ rw (serve-done r f e, d .table, d .value, d .fresh);
+          plain = plain-done r f (sym agrees ∙ e) ∙ rw (serve-done r f e, d .table, d .value, d .fresh, seen-agrees r f k);
           falls = λ a b. rw (serve-done r f e) (d .falls a b);
         }
     pick (suc n) e =

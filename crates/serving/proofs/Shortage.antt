@@ -6,15 +6,14 @@ use mathlib.Core.List.{List, [], _∷_, _++_}
 use Prim.Native.Nat.{ℕ, _<_}
 use native.Mathlib.Omega.{arith}
 use lib.Dec.{ltb}
-use lib.ListN.{take}
 use borrow.Author.Tests.{ltb-true, lt-ltb}
 use Rattle.meaning.specs.Limits.{DONE, NO-NODES}
 use Rattle.meaning.specs.Counting.{Each}
-use Rattle.meaning.specs.Table.{Party}
 use Rattle.meaning.specs.Frames.{Frame}
 use Rattle.meaning.specs.Operations.{Op}
 use Rattle.meaning.specs.Costs.{cost}
-use Rattle.meaning.specs.Checks.{unlimited, nodes, isShort, Check, _if_, firstOf, sourceOf, checks}
+use Rattle.meaning.specs.Supply.{allFree, noLimit, isShort}
+use Rattle.meaning.specs.Checks.{Seen, Check, _if_, entryChecks, findChecks, earlierChecks, nodesCheck, checks, firstOf}
 
 abbrev Named : ℕ → List Check → Type 0
 Named n cs = Each (λ (c : Check). (c .number ≢ n) × (c .number ≢ DONE)) cs
@@ -31,14 +30,16 @@ last-only (c ∷ cs) n b f h = pick (c .applies) (last-only cs n b f (h .1))
     pick true ih = (λ e. absurd (h .0 .0 e), λ e. absurd (h .0 .1 (e .0)))
     pick false ih = ih
 
-module _ (o : Op) (f : Frame) (g t : Party) (free : ℕ) where
-  earlier-named : Named NO-NODES (take 9 (checks o (nodes free) f g t))
-  unfolding checks _if_
+module _ (o : Op) (f : Frame) (x : Seen) (free : ℕ) where
+  earlier-named : Named NO-NODES (earlierChecks o f x)
+  unfolding entryChecks findChecks earlierChecks _if_
   earlier-named = omega arith
 
-  pub short-exactly : (firstOf (checks o (nodes free) f g t) ≡ NO-NODES) ↔ ((firstOf (checks o unlimited f g t) ≡ DONE) × (free < cost o (sourceOf g f) .charge))
-  unfolding checks isShort _if_
+  abbrev charge : ℕ
+  charge = cost o (x .bits) (x .length) .charge
+
+  pub short-exactly : (firstOf (checks o (allFree free) f x) ≡ NO-NODES) ↔ ((firstOf (checks o noLimit f x) ≡ DONE) × (free < charge))
+  unfolding checks nodesCheck isShort _if_
   short-exactly =
-      let both : (firstOf (checks o (nodes free) f g t) ≡ NO-NODES) ↔ ((firstOf (checks o unlimited f g t) ≡ DONE) × (ltb free (cost o (sourceOf g f) .charge) ≡ true))
-      = last-only (take 9 (checks o (nodes free) f g t)) NO-NODES (ltb free (cost o (sourceOf g f) .charge)) (omega arith) earlier-named in
+      let both = last-only (earlierChecks o f x) NO-NODES (ltb free charge) (omega arith) earlier-named in
       (λ e. let h = both .0 e in (h .0, ltb-true free _ (h .1)), λ e. both .1 (e .0, lt-ltb free _ (e .1)))

@@ -6,7 +6,7 @@ use mathlib.Core.List.{List, []}
 use Prim.Native.Nat.{ℕ, _+_, _≤_, _<_}
 use native.Mathlib.Omega.{arith}
 use lib.Dec.{eqb}
-use lib.ListN.{set}
+use lib.ListN.{length, set}
 use Rattle.meaning.specs.Limits.{parties, partyWalks}
 use Rattle.meaning.specs.Lent.{WalkRecord, closedRecord, walkRecord}
 use Rattle.meaning.specs.WellFormed.{Open}
@@ -14,8 +14,8 @@ use Rattle.meaning.specs.Table.{taking, rest, putWalk}
 use Rattle.meaning.specs.Stands.{walkOf}
 use Rattle.meaning.specs.Frames.{Frame}
 use Rattle.meaning.specs.Operations.{Op, open-walk, next, next-back, close-walk, anyone, uses, giver, taker}
-use Rattle.meaning.specs.Costs.{plain, cost}
-use Rattle.meaning.specs.Checks.{isEmpty, leftOf}
+use Rattle.meaning.specs.Costs.{plain, priced, cost}
+use Rattle.meaning.specs.Checks.{nothingThere, leftOf}
 use Rattle.meaning.specs.Effects.{effect}
 use Rattle.ledger.proofs.Releasing.{release-remains}
 use Rattle.walk.specs.Walk as walk
@@ -25,8 +25,7 @@ use Rattle.walking.proofs.Records.{slices-fit}
 use Rattle.walking.proofs.Opening.{opened-runs, opened-table}
 use Rattle.walking.proofs.Taking.{taken-runs, taken-table}
 use Rattle.walking.proofs.Closing.{closed-runs, closed-table}
-use Rattle.frames.specs.Run.{Run, walkPlace, walkIn, sourceIn, walkedIn}
-use Rattle.frames.specs.Seen.{seenIn, isNothing}
+use Rattle.frames.specs.Run.{Run, walkPlace, walkIn, sourceIn, walkedIn, seenIn, supplyIn}
 use Rattle.frames.specs.Serve.{opens, gotOf, takes, closes, done, freshIn}
 use Rattle.serving.specs.States.{Runs, tableIn}
 use Rattle.serving.specs.Passed.{Passed}
@@ -37,8 +36,8 @@ use Rattle.serving.proofs.Sources.{source-live, source-is, walked-withi
 -- ---- opening
 
 module _ (r : Run) (f : Frame) (k : Runs r) (below : taker f < parties) where
-  pub open-does : Passed open-walk f (seenIn r f) → Does open-walk r f
-  unfolding uses anyone done effect cost plain opens freshIn
+  pub open-does : Passed open-walk (supplyIn r) f (seenIn r f) → Does open-walk r f
+  unfolding uses anyone done effect cost priced plain opens freshIn
   open-does p =
       let within = opened-within open-walk r f k (p .entered) refl in
       let live = source-live open-walk r f k (p .entered) refl in
@@ -58,8 +57,8 @@ module _ (r : Run) (f : Frame) (k : Runs r) (below : taker f < parties) (own : g
   close-here : (f .slot < partyWalks) → walkedIn r f ≡ walkRecord (r .walks) (walkPlace (taker f) (f .slot))
   close-here within = ap (λ (p : ℕ). walkIn r p (f .slot)) own ∙ walk-here r (taker f) (f .slot) below within
 
-  pub close-does : Passed close-walk f (seenIn r f) → Does close-walk r f
-  unfolding uses anyone done effect cost plain closes freshIn
+  pub close-does : Passed close-walk (supplyIn r) f (seenIn r f) → Does close-walk r f
+  unfolding uses anyone done effect cost priced plain closes freshIn
   close-does p =
       let within = walked-within close-walk r f k (p .entered) refl in
       let here = close-here within in
@@ -90,9 +89,8 @@ module _ (r : Run) (f : Frame) (k : Runs r) (below : taker f < parties) (own : g
       ap (walkOf (r .store .nodes)) (sym walk-at) ∙ (is ∙ ap taking (sym (left-for ∙ ap rest is)))
 
   some-left : leftFor r f ≢ []
-  unfolding isEmpty
   some-left e =
-      false≢true (sym going ∙ (ended-seen (r .store .nodes) (walkedIn r f) (inr opened) ∙ ap isEmpty (sym left-for ∙ e)))
+      false≢true (sym going ∙ (ended-seen (r .store .nodes) (walkedIn r f) (inr opened) ∙ ap (λ (xs : List ℕ). eqb (length xs) 0) (sym left-for ∙ e)))
 
   module _ (back : Bool) (item : ℕ) (others : List ℕ) (w : WalkRecord) (same : w .version ≡ walkRecord (r .walks) (walkPlace (taker f) (f .slot)) .version)
       (took : Took (r .store .nodes) (r .walks) (walkPlace (taker f) (f .slot)) item others w (walk.takenBy (r .store .nodes .cells) (r .store .nodes .used) back (r .walks) (walkPlace (taker f) (f .slot)))) where
@@ -116,7 +114,7 @@ module _ (r : Run) (f : Frame) (k : Runs r) (below : taker f < parties) (own : g
     unfolding takes freshIn
     takes-fresh = omega arith
 
-    takes-does : (o : Op) → done o r f ≡ takes r f back → effectOn o r f ≡ (putWalk (takerIn r f) (f .slot) (taking others), item) → cost o (versionFor r f) .fresh ≡ 0 → Does o r f
+    takes-does : (o : Op) → done o r f ≡ takes r f back → effectOn o r f ≡ (putWalk (takerIn r f) (f .slot) (taking others), item) → cost o (seenIn r f .bits) (seenIn r f .length) .fresh ≡ 0 → Does o r f
     takes-does o h effect c = record {
       runs = rw h takes-runs;
       table = rw (h, effect) takes-table;
@@ -126,8 +124,8 @@ module _ (r : Run) (f : Frame) (k : Runs r) (below : taker f < parties) (own : g
     }
 
 module _ (r : Run) (f : Frame) (k : Runs r) (below : taker f < parties) (own : giver f ≡ taker f) where
-  pub next-does : Passed next f (seenIn r f) → Does next r f
-  unfolding uses anyone done effect cost plain isNothing seenIn
+  pub next-does : Passed next (supplyIn r) f (seenIn r f) → Does next r f
+  unfolding uses anyone done effect cost priced plain nothingThere seenIn
   next-does p =
       let within = walked-within next r f k (p .entered) refl in
       let opened = walked-open next r f k (p .entered) refl in
@@ -136,8 +134,8 @@ module _ (r : Run) (f : Frame) (k : Runs r) (below : taker f < parties) (own : g
       (left-taking r f k below own within opened (p .there)) (some-left r f k below own within opened (p .there)) in
       takes-does r f k below own within opened (p .there) false _ _ _ refl took next refl refl refl
 
-  pub next-back-does : Passed next-back f (seenIn r f) → Does next-back r f
-  unfolding uses anyone done effect cost plain isNothing seenIn
+  pub next-back-does : Passed next-back (supplyIn r) f (seenIn r f) → Does next-back r f
+  unfolding uses anyone done effect cost priced plain nothingThere seenIn
   next-back-does p =
       let within = walked-within next-back r f k (p .entered) refl in
       let opened = walked-open next-back r f k (p .entered) refl in

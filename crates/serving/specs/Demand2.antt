@@ -16,7 +16,8 @@ use Rattle.meaning.specs.Stands.{tableOf}
 use Rattle.meaning.specs.Frames.{Frame}
 use Rattle.meaning.specs.Operations.{release, close-walk, opOf, giver}
 use Rattle.meaning.specs.Costs.{cost}
-use Rattle.meaning.specs.Checks.{unlimited, firstOf, sourceOf}
+use Rattle.meaning.specs.Supply.{noLimit}
+use Rattle.meaning.specs.Checks.{firstOf, sourceOf}
 use Rattle.meaning.specs.Serve.{serve, run}
 use Rattle.meaning.specs.Batch.{batchChecks, outcome, batch}
 use Rattle.serving.specs.Lending.{after, answer, afterAll, replies, supplyOf, calls, framesIn, freeAt}
@@ -32,11 +33,11 @@ pub record Answered (s : Lent) (f : Frame) : Type 0 where
 
 -- what a frame is charged
 abbrev pub chargeFor : Table → Frame → ℕ
-chargeFor t f = cost (opOf f) (sourceOf (partyAt t (giver f)) f) .charge
+chargeFor t f = let v = sourceOf (partyAt t (giver f)) f in cost (opOf f) (v .bits) (length (v .items)) .charge
 
 -- 10 is given exactly if all earlier checks pass and fewer nodes are free than the charge
 abbrev pub ShortExactly : Lent → Frame → Type 0
-ShortExactly s f = (answer s f .number ≡ NO-NODES) ↔ ((serve unlimited f (tableOf s) .1 .number ≡ DONE) × (freeNodes (s .nodes) < chargeFor (tableOf s) f))
+ShortExactly s f = (answer s f .number ≡ NO-NODES) ↔ ((serve noLimit f (tableOf s) .1 .number ≡ DONE) × (freeNodes (s .nodes) < chargeFor (tableOf s) f))
 
 -- ---- frames in order
 

@@ -10,9 +10,9 @@ use Rattle.meaning.specs.Operations.{Op, release, close-walk, giver, taker}
 use Rattle.meaning.specs.Costs.{cost}
 use Rattle.meaning.specs.Checks.{sourceOf, leftOf}
 use Rattle.meaning.specs.Effects.{effect}
-use Rattle.frames.specs.Run.{Run}
+use Rattle.frames.specs.Run.{Run, seenIn, supplyIn}
 use Rattle.frames.specs.Serve.{done, freshIn}
-use Rattle.serving.specs.States.{Runs, tableIn, supplyIn}
+use Rattle.serving.specs.States.{Runs, tableIn}
 
 -- the slots and walks of the parties that a frame names
 abbrev pub giverIn : Run → Frame → Party
@@ -36,5 +36,5 @@ pub record Does (o : Op) (r : Run) (f : Frame) : Type 0 where
   pub table : tableIn (done o r f .run) ≡ set (tableIn r) (taker f) (effectOn o r f .0)
   pub value : done o r f .value ≡ effectOn o r f .1
   -- the fall in free nodes, which rise with a release or a close alone
-  pub fresh : freshIn r (done o r f .run) ≡ cost o (versionFor r f) .fresh
+  pub fresh : freshIn r (done o r f .run) ≡ cost o (seenIn r f .bits) (seenIn r f .length) .fresh
   pub falls : o ≢ release → o ≢ close-walk → done o r f .run .store .free ≤ r .store .free

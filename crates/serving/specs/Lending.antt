@@ -5,7 +5,7 @@ use lib.ListN.{take, drop}
 use Rattle.meaning.specs.Limits.{frameSize}
 use Rattle.meaning.specs.Lent.{Lent, freeNodes}
 use Rattle.meaning.specs.Frames.{Frame, Answer, decode}
-use Rattle.meaning.specs.Checks.{Supply, nodes}
+use Rattle.meaning.specs.Supply.{Supply, allFree}
 use Rattle.meaning.specs.Serve.{Call, Reply}
 use Rattle.frames.specs.Serve.{serve}
 use Rattle.serving.specs.States.{lentIn, runIn}
@@ -29,7 +29,7 @@ replies s fs = serveAll (runIn s) fs .1
 
 -- the free nodes of a state, as the plain table is told of them
 abbrev pub supplyOf : Lent → Supply
-supplyOf s = nodes (freeNodes (s .nodes))
+supplyOf s = allFree (freeNodes (s .nodes))
 
 -- each frame, with the nodes that are free when it comes
 unfoldable pub calls : Lent → List Frame → List Call

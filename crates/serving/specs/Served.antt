@@ -7,9 +7,9 @@ use Rattle.meaning.specs.Frames.{Frame}
 use Rattle.meaning.specs.Operations.{release, close-walk, opOf}
 use Rattle.meaning.specs.Serve.{Call, Reply, run}
 use Rattle.meaning.specs.Serve as plain
-use Rattle.frames.specs.Run.{Run}
+use Rattle.frames.specs.Run.{Run, supplyIn}
 use Rattle.frames.specs.Serve.{serve}
-use Rattle.serving.specs.States.{Runs, tableIn, supplyIn}
+use Rattle.serving.specs.States.{Runs, tableIn}
 
 -- the state runs on, and the table and the answer are the plain table's
 pub record Serves (r : Run) (f : Frame) : Type 0 where

@@ -2,7 +2,6 @@
 use Rattle.meaning.specs.Lent.{Lent}
 use Rattle.meaning.specs.Table.{Table}
 use Rattle.meaning.specs.Stands.{tableOf}
-use Rattle.meaning.specs.Checks.{Supply, nodes}
 use Rattle.ledger.specs.Kept.{storeIn}
 use Rattle.upkeep.specs.Running.{stateOf, Running}
 use Rattle.frames.specs.Run.{Run}
@@ -19,7 +18,3 @@ Runs r = Running (r .store) (r .versions) (r .walks)
 
 abbrev pub tableIn : Run → Table
 tableIn r = tableOf (lentIn r)
-
--- as many nodes as are free now
-abbrev pub supplyIn : Run → Supply
-supplyIn r = nodes (r .store .free)

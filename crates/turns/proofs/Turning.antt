@@ -12,12 +12,12 @@ use Rattle.meaning.specs.Limits.{parties, partyWalks, DONE}
 use Rattle.meaning.specs.Lent.{VersionRecord, WalkSlices}
 use Rattle.meaning.specs.Frames.{Frame}
 use Rattle.meaning.specs.Operations.{opOf, giver, taker}
-use Rattle.meaning.specs.Checks.{firstOf}
+use Rattle.meaning.specs.Checks.{entryChecks, firstOf}
 use Rattle.meaning.specs.Serve.{refused}
+use Rattle.meaning.proofs.Booleans.{both-below}
 use Rattle.records.specs.Records.{recordOf}
 use Rattle.records.specs.declared.Version.{Version}
 use Rattle.store.specs.Store.{Store}
-use Rattle.frames.specs.Seen.{entryChecks}
 use Rattle.refusals.specs.Flags.{standing}
 use Rattle.served.specs.Served.{refusedWith}
 use Rattle.served.specs.Acted.{actedOf}
@@ -26,16 +26,9 @@ use Rattle.calls.specs.Walks.{WalkActed}
 use Rattle.calls.specs.Calls.{withWalks, act}
 use Rattle.turns.specs.Turns.{isOpenAt, standingIn, entryNumber, turn}
 
-both-below : (p n : ℕ) → ltb p parties && ltb n partyWalks ≡ true → (p < parties) × (n < partyWalks)
-both-below p n e = pick (ltb p parties) refl e
-  where
-    pick : (b : Bool) → ltb p parties ≡ b → b && ltb n partyWalks ≡ true → (p < parties) × (n < partyWalks)
-    pick true q h = (ltb-true p parties q, ltb-true n partyWalks h)
-    pick false q h = absurd (false≢true h)
-
 -- a walk that is there has its number
 pub walk-inside : (p n : ℕ) → ltb p parties && ltb n partyWalks ≡ true → 6 * (2 * p + n) < 96
-walk-inside p n e = let (a, b) = both-below p n e in omega arith
+walk-inside p n e = let (a, b) = both-below p n parties partyWalks e in omega arith
 
 pub walk-opens : (numbers : List ℕ) (p n : ℕ) → ltb p parties && ltb n partyWalks ≡ true → eqb (getD numbers (6 * (2 * p + n)) 0) 1 ≡ isOpenAt numbers p n
 walk-opens numbers p n e = rw e (ap (λ (i : ℕ). eqb (getD numbers i 0) 1) (omega arith))

@@ -8,13 +8,12 @@ use Rattle.meaning.specs.Limits.{parties, partySlots, partyWalks, DONE}
 use Rattle.meaning.specs.Lent.{VersionRecord, WalkSlices}
 use Rattle.meaning.specs.Frames.{Frame}
 use Rattle.meaning.specs.Operations.{opOf, giver, taker}
-use Rattle.meaning.specs.Checks.{firstOf}
+use Rattle.meaning.specs.Checks.{Standing, entryChecks, firstOf}
 use Rattle.meaning.specs.Serve.{refused}
 use Rattle.store.specs.Store.{Store}
 use Rattle.walk.specs.Walk.{numberAt}
 use Rattle.requests.specs.Numbers.{RELEASE}
 use Rattle.frames.specs.Run.{walkPlace}
-use Rattle.frames.specs.Seen.{Standing, entryChecks}
 use Rattle.refusals.specs.Flags.{standing}
 use Rattle.calls.specs.Walks.{WalkActed, acted}
 use Rattle.calls.specs.Calls.{Serviceable, withWalks, act}

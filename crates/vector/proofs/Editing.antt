@@ -16,6 +16,7 @@ use Rattle.meaning.specs.Shape.{degree, height, bucket, isRootFull}
 use Rattle.meaning.specs.Trees.{heightOf}
 use Rattle.meaning.specs.Costs.{losesRoot}
 use Rattle.meaning.specs.WellFormed.{LegalBits}
+use Rattle.meaning.proofs.Booleans.{both-true}
 use Rattle.shape.proofs.Powers.{power-positive, power-doubles}
 use Rattle.shape.proofs.Buckets.{bucket-top}
 use Rattle.shape.proofs.Growth.{height-push}
@@ -81,10 +82,6 @@ drop-can s v h e p b ne f =
 
 -- ---- the first child of a root that keeps one
 
-both : (a b : Bool) → (a && b) ≡ true → (a ≡ true) × (b ≡ true)
-both true b e = (refl, e)
-both false b e = absurd (let z : _≡_ {A = ℕ} 0 1 = cc in omega arith)
-
 cells-length : (s : Store) (n : ℕ) → Sized s → n < nodeCount s → length (cellsOf (s .nodes .cells) n) ≡ nodeCells
 unfolding cellsOf
 cells-length s n z l = length-take-le nodeCells (drop (nodeCells * n) (s .nodes .cells)) (simp length-drop (omega (arith, z .cells)))
@@ -105,7 +102,7 @@ child-below s bits (suc h) n z b l w =
 pub compress-can : (s : Store) (v : VersionRecord) (h : ℕ) → CanDrop s v h → (leb 1 h && eqb (v .length - 1) (degree (v .bits) ^ h)) ≡ true
     → (getD (cellsOf (s .nodes .cells) (v .root)) 0 0 < length (s .counts)) × Room 1 (s .counts)
 compress-can s v h d t =
-    let e = both (leb 1 h) (eqb (v .length - 1) (degree (v .bits) ^ h)) t in
+    let e = both-true (leb 1 h) (eqb (v .length - 1) (degree (v .bits) ^ h)) t in
     let r = d .ready in
     let w : WayToLast s (v .bits) h (v .root) (degree (v .bits) ^ h) = rw (eqb-true (v .length - 1) (degree (v .bits) ^ h) (e .1)) at (r .way) in (
       rw (r .sized .counts) (child-below s (v .bits) h (v .root) (r .sized) (r .legal .least) (leb-true 1 h (e .0)) w),
