@@ -16,9 +16,9 @@ use Rattle.meaning.specs.Links.{liveRoots, roots}
 use Rattle.meaning.specs.WellFormed.{Live}
 use Rattle.meaning.proofs.Reaching.{shaped-used}
 use Rattle.meaning.proofs.Rows.{rows-length}
+use Rattle.meaning.proofs.Nodes.{used-inside}
 use Rattle.store.specs.Store.{Store}
 use Rattle.sweep.specs.Ready.{Releasable}
-use Rattle.ledger.proofs.Facts.{used-inside}
 use Rattle.ledger.proofs.Ready.{order-below, counts-room, releasable}
 use Rattle.shape.specs.Legal.{Legal}
 use Rattle.shape.proofs.Capacity.{full-exactly, height-holds}

@@ -13,10 +13,10 @@ use Rattle.meaning.specs.Lent.{Nodes, kindOf}
 use Rattle.meaning.specs.Shape.{degree, bucket}
 use Rattle.meaning.specs.Trees.{Shaped}
 use Rattle.meaning.specs.WellFormed.{LegalBits}
-use Rattle.meaning.proofs.Reaching.{shaped-used}
+use Rattle.meaning.proofs.Reaching.{shaped-inside}
+use Rattle.meaning.proofs.Nodes.{used-inside}
 use Rattle.store.specs.Store.{Store, nodeCount}
 use Rattle.store.specs.Ready.{Sized, AllBelow}
-use Rattle.ledger.proofs.Facts.{used-inside}
 use Rattle.paths.specs.Paths.{Source, source}
 use Rattle.paths.specs.Ready.{Fork, Way, WayBeyond, WayToLast}
 use Rattle.shape.proofs.Powers.{degree-most}
@@ -25,10 +25,6 @@ use Rattle.trees.specs.Elements.{inside}
 use Rattle.trees.proofs.Digits.{inside-splits, inside-below}
 use Rattle.trees.proofs.Numbers.{put-bucket}
 use Rattle.trees.proofs.Sources.{branch-source, child-found, last-used, last-child}
-
--- a node of some shape is there
-shaped-inside : (s : Nodes) (bits h m n : ℕ) → Shaped s bits h m n → n < length (s .kinds)
-shaped-inside s bits h m n p = used-inside s n (shaped-used s bits h m n p)
 
 found-inside : (s : Nodes) (bits h : ℕ) (there : Bool) (m n : ℕ) → Found s bits h there m n → there ≡ true → n < length (s .kinds)
 found-inside s bits h true m n p e = shaped-inside s bits h m n p

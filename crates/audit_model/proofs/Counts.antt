@@ -14,9 +14,11 @@ use Rattle.meaning.specs.Lent.{Nodes, cellOf, childCount, VersionRecord, emptyR
 use Rattle.meaning.specs.Links.{liveRoots, roots, cellLinks, links}
 use Rattle.meaning.specs.WellFormed.{SizesFit}
 use Rattle.meaning.proofs.Lists.{many-le, occurs-append}
+use Rattle.meaning.proofs.Sums.{occurs-take}
+use Rattle.meaning.proofs.Rows.{rows-map}
 use Rattle.audit_model.specs.Tallies.{raise, raiseTo, raiseRoot, rootsTally, nodeTally, nodesTally}
 use Rattle.audit_model.specs.Audit.{versionCount, walkCount, Blank, versionOf, tallies}
-use Rattle.audit_model.proofs.Lists.{many-next, occurs-taken, rows-map, rows-all, rootLink, roots-next}
+use Rattle.audit_model.proofs.Lists.{many-next, rows-all, rootLink, roots-next}
 
 -- t′ is t with g n more at each n
 pub record Raised (g : ℕ → ℕ) (t t′ : List ℕ) : Type 0 where
@@ -84,7 +86,7 @@ free-within s = many-le (length (s .kinds)) (isFree s)
 
 pub order-occurs : (s : Lent) → SizesFit s → (n : ℕ) → occurrences n (freeOrder s) ≡ howMany (freeNodes (s .nodes)) (λ j. eqb (getD (s .order) j 0) n)
 unfolding freeOrder
-order-occurs s f n = occurs-taken n (s .order) (freeNodes (s .nodes)) (omega (arith, free-within (s .nodes), f .order))
+order-occurs s f n = occurs-take n (freeNodes (s .nodes)) (s .order) (omega (arith, free-within (s .nodes), f .order))
 
 pub tallies-are : (s : Lent) → SizesFit s → (z : List ℕ) → Blank (size s) z → (n : ℕ) → n < size s → getD (tallies s z) n 0 ≡ occurrences n (freeOrder s) + links s n
 unfolding tallies links

@@ -3,13 +3,12 @@ use mathlib.Core.Path.{_≡_, refl, sym, ap, _∙_}
 use mathlib.Core.Logic.{_≢_, _↔_}
 use mathlib.Core.Bool.{Bool, true, false, cond, not, _&&_}
 use mathlib.Core.List.{List}
-use Prim.Native.Nat.{ℕ, zero, _≤_, _<_}
+use Prim.Native.Nat.{ℕ, _≤_, _<_}
 use native.Mathlib.Decide.{ℕ-discrete}
-use native.Mathlib.Nat.{lt-irrefl}
 use native.Mathlib.Omega.{arith}
 use lib.Dec.{eqb, ltb}
 use lib.ListN.{length, getD}
-use borrow.Author.Tests.{eqb-true, eqb-false, ltb-true, eq-eqb, ne-eqb, lt-ltb, not-true}
+use borrow.Author.Tests.{eqb-true, eqb-false, ltb-true, eq-eqb, ne-eqb, not-true}
 use Rattle.meaning.specs.Limits.{nodeCells, FREE}
 use Rattle.meaning.specs.Counting.{sumTo, bit, occurrences, Each}
 use Rattle.meaning.specs.Lent.{Nodes, kindOf, usedOf, cellOf, Lent, size, countOf, isFree, freeNodes, freeOrder, walkRecords}
@@ -18,19 +17,16 @@ use Rattle.meaning.specs.WellFormed.{SizesFit, LegalVersion, LegalWalk, WellFor
 use Rattle.meaning.proofs.Lists.{sum-none, many-some}
 use Rattle.meaning.proofs.Reaching.{reached-used}
 use Rattle.meaning.proofs.Booleans.{both-true}
+use Rattle.meaning.proofs.Nodes.{free-bit, linking-used, used-bit, used-inside}
+use Rattle.meaning.proofs.Sums.{many-one}
 use Rattle.audit_model.specs.Descent.{Answer}
 use Rattle.audit_model.specs.Audit.{Blank, recordsOk, orderOk, tallies, spareOk, nodeOk, nodesOk, restOk}
 use Rattle.audit_model.proofs.Tests.{true≢false, true-both, all-at, at-all, from-at, at-from}
-use Rattle.audit_model.proofs.Visits.{used-node}
-use Rattle.audit_model.proofs.Lists.{none-of, bit-some, many-one}
+use Rattle.audit_model.proofs.Lists.{none-of, bit-some}
 use Rattle.audit_model.proofs.Counts.{order-occurs, tallies-are}
-use Rattle.audit_model.proofs.Marks.{links-cell, records-done, reached-marked, legal-each, each-legal}
+use Rattle.audit_model.proofs.Marks.{records-done, reached-marked, legal-each, each-legal}
 
 -- ---- one node
-
-free-is : (s : Nodes) (n : ℕ) → n < length (s .kinds) → kindOf s n ≡ FREE → isFree s n ≡ true
-unfolding isFree
-free-is s n l e = true-both _ _ (lt-ltb n (length (s .kinds)) l) (eq-eqb (kindOf s n) FREE e)
 
 is-free : (s : Nodes) (n : ℕ) → isFree s n ≡ true → (n < length (s .kinds)) × (kindOf s n ≡ FREE)
 unfolding isFree
@@ -114,7 +110,7 @@ module _ (s : Lent) (fit : SizesFit s) (z : List ℕ) (blank : Blank (size s) z)
     counted = λ n l. counted n l (ℕ-discrete (kindOf (s .nodes) n) FREE);
     reached = λ n. (reached n, used n);
     once = λ n. once n (isFree (s .nodes) n) refl;
-    spare = λ n i f. compared n (used-node (s .nodes) n f) .spare f i;
+    spare = λ n i f. compared n (used-inside (s .nodes) n f) .spare f i;
     freeUsed = λ n l k. compared n l .free k .1;
     freeCount = λ n l k. compared n l .free k .2;
   }
@@ -138,7 +134,7 @@ module _ (s : Lent) (fit : SizesFit s) (z : List ℕ) (blank : Blank (size s) z)
       compared n l = node-compared s (a .codes) (tallies s z) n (all-at (size s) (nodeOk (s .nodes) (s .counts) (a .codes) (tallies s z)) (x .1) n l)
 
       reached : (n : ℕ) → kindOf (s .nodes) n ≢ FREE → Reached (s .nodes) (roots s) n
-      reached n f = records-done s fit z blank .good (ok .0) .only n (compared n (used-node (s .nodes) n f) .reached f .0)
+      reached n f = records-done s fit z blank .good (ok .0) .only n (compared n (used-inside (s .nodes) n f) .reached f .0)
 
       used : (n : ℕ) → Reached (s .nodes) (roots s) n → kindOf (s .nodes) n ≢ FREE
       used n r = reached-used s versions walks r
@@ -148,9 +144,7 @@ module _ (s : Lent) (fit : SizesFit s) (z : List ℕ) (blank : Blank (size s) z)
       unlinked n k = no-links s n (none-of (occurrences n (roots s)) (λ l. used n (byRoot l) k)) (sum-none (size s) (λ m. cellLinks (s .nodes) m n) (λ m _. none-of _ (λ l. linked m l)))
         where
           linked : (m : ℕ) → 1 ≤ cellLinks (s .nodes) m n → ⊥
-          linked m l =
-              let c = links-cell (s .nodes) m n l in
-              used n (byCell (reached m (λ d. lt-irrefl zero (omega (arith, c .branch)))) l) k
+          linked m l = used n (byCell (reached m (linking-used (s .nodes) m n l)) l) k
 
       -- and no other stands in the free order
       free-ordered : (n : ℕ) → 1 ≤ occurrences n (freeOrder s) → isFree (s .nodes) n ≡ true
@@ -191,14 +185,10 @@ module _ (s : Lent) (fit : SizesFit s) (z : List ℕ) (blank : Blank (size s) z)
       }
         where
           free : kindOf (s .nodes) n ≡ FREE → getD (tallies s z) n 0 ≡ 1
-          free k =
-              let one : bit (isFree (s .nodes) n) ≡ 1 = ap bit (free-is (s .nodes) n l k) in
-              omega (arith, tallies-are s fit z blank n l, W .once n, W .counted n l, W .freeCount n l k)
+          free k = omega (arith, free-bit (s .nodes) n l k, tallies-are s fit z blank n l, W .once n, W .counted n l, W .freeCount n l k)
 
           other : kindOf (s .nodes) n ≢ FREE → getD (tallies s z) n 0 ≡ countOf s n
-          other f =
-              let none = none-of (bit (isFree (s .nodes) n)) (λ q. f (is-free (s .nodes) n (bit-some (isFree (s .nodes) n) q) .1)) in
-              omega (arith, tallies-are s fit z blank n l, W .once n, W .counted n l)
+          other f = omega (arith, used-bit (s .nodes) n f, tallies-are s fit z blank n l, W .once n, W .counted n l)
 
   pub rest-decides : (restOk s z ≡ true) ↔ WellFormed s
   rest-decides = (rest-sound, rest-complete)

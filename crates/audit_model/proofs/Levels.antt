@@ -4,7 +4,7 @@ use mathlib.Core.Logic.{_⊎_, inl, inr}
 use mathlib.Core.Bool.{Bool, true, false, cond, _&&_, _||_}
 use mathlib.Core.List.{List, [], _∷_, _++_}
 use Prim.Native.Nat.{ℕ, zero, suc, _-_, _≤_, _<_}
-use native.Mathlib.Nat.{lt-irrefl, eq-or-lt-of-le}
+use native.Mathlib.Nat.{eq-or-lt-of-le}
 use native.Mathlib.Decide.{decLt}
 use native.Mathlib.Omega.{arith}
 use lib.Dec.{eqb}
@@ -20,21 +20,9 @@ use Rattle.meaning.specs.Trees.{heightOf}
 use Rattle.meaning.specs.Walks.{way, stack, padded}
 use Rattle.meaning.proofs.Lists.{replicate-at}
 use Rattle.meaning.proofs.Booleans.{both-true}
+use Rattle.meaning.proofs.Rows.{rows-at, rows-length}
 use Rattle.audit_model.specs.Records.{isIndex, levelIs, wayOk, blankFrom, stackOk}
 use Rattle.audit_model.proofs.Tests.{true≢false, true-both, from-at, at-from}
-
--- ---- lists by rule
-
-pub rows-length : {A : Type 0} (n : ℕ) (f : ℕ → A) → length (rows n f) ≡ n
-unfolding rows
-rows-length zero f = refl
-rows-length (suc n) f = ap suc (rows-length n (λ i. f (suc i)))
-
-pub rows-at : {A : Type 0} (n : ℕ) (f : ℕ → A) (d : A) (k : ℕ) → k < n → getD (rows n f) k d ≡ f k
-unfolding rows
-rows-at zero f d k l = absurd (lt-irrefl zero (omega arith))
-rows-at (suc n) f d zero l = refl
-rows-at (suc n) f d (suc k) l = rows-at n (λ i. f (suc i)) d k (omega arith)
 
 filled-at : (ls : List Level) (n k : ℕ) → getD (ls ++ replicate n noLevel) k noLevel ≡ getD ls k noLevel
 filled-at [] n k = replicate-at n k noLevel
@@ -59,11 +47,11 @@ levels-rows w st ls l h =
     (λ k u. by k (omega (arith, rows-length walkLevels (levelOf w st))))
   where
     by : (k : ℕ) → k < walkLevels → getD (rows walkLevels (levelOf w st)) k noLevel ≡ getD (padded ls) k noLevel
-    by k u = rows-at walkLevels (levelOf w st) noLevel k u ∙ h k u ∙ sym (padded-at ls k)
+    by k u = rows-at walkLevels k (levelOf w st) noLevel u ∙ h k u ∙ sym (padded-at ls k)
 
 rows-levels : (w : WalkSlices) (st : ℕ) (ls : List Level) → rows walkLevels (levelOf w st) ≡ padded ls → Levels w st ls
 rows-levels w st ls e k u =
-    sym (rows-at walkLevels (levelOf w st) noLevel k u) ∙ ap (λ (x : List Level). getD x k noLevel) e ∙ padded-at ls k
+    sym (rows-at walkLevels k (levelOf w st) noLevel u) ∙ ap (λ (x : List Level). getD x k noLevel) e ∙ padded-at ls k
 
 -- ---- one level
 

@@ -2,14 +2,13 @@
 use mathlib.Core.Path.{_≡_, refl, sym, ap, _∙_}
 use mathlib.Core.Logic.{_⊎_, inl, inr}
 use mathlib.Core.Bool.{Bool, true, false, cond}
-use mathlib.Core.List.{List, [], _∷_, _++_, map}
+use mathlib.Core.List.{List, [], _∷_, _++_}
 use Prim.Native.Nat.{ℕ, zero, suc, _+_, _≤_, _<_}
 use native.Mathlib.Nat.{lt-irrefl, eq-or-lt-of-le, le-of-suc-le-suc}
 use native.Mathlib.Omega.{arith}
 use native.Mathlib.Decide.{ℕ-discrete}
 use lib.Dec.{eqb}
-use lib.ListN.{length, getD, take}
-use lib.Seq.{take-suc}
+use lib.ListN.{length, getD}
 use borrow.Author.Tests.{eqb-true, eq-eqb}
 use Rattle.meaning.specs.Counting.{sumTo, bit, howMany, occurrences, rows, Each}
 use Rattle.meaning.specs.Lent.{VersionRecord}
@@ -29,31 +28,9 @@ pub many-next : (n : ℕ) (test : ℕ → Bool) → howMany (suc n) test ≡ how
 unfolding howMany sumTo
 many-next n test = refl
 
-pub many-one : (n : ℕ) (test : ℕ → Bool) (k : ℕ) → k < n → test k ≡ true → 1 ≤ howMany n test
-unfolding howMany sumTo
-many-one zero test k l e = absurd (lt-irrefl zero (omega arith))
-many-one (suc n) test k l e = by (eq-or-lt-of-le (le-of-suc-le-suc l)) (λ u. many-one n test k u e)
-  where
-    by : (k ≡ n) ⊎ (k < n) → (k < n → 1 ≤ howMany n test) → 1 ≤ howMany n test + bit (test n)
-    by (inl d) rest = let q : test n ≡ true = rw d at e in rw q (omega arith)
-    by (inr u) rest = omega (arith, rest u)
-
-pub occurs-taken : (n : ℕ) (xs : List ℕ) (k : ℕ) → k ≤ length xs → occurrences n (take k xs) ≡ howMany k (λ j. eqb (getD xs j 0) n)
-unfolding howMany sumTo occurrences
-occurs-taken n xs zero l = refl
-occurs-taken n xs (suc k) l =
-    ap (occurrences n) (take-suc xs k 0 l) ∙ occurs-append n (take k xs) (getD xs k 0 ∷ []) ∙ omega (arith, occurs-taken n xs k (omega arith))
-
--- ---- each, by places
-
 pub each-list : {A : Type 0} (P : A → Type 0) (d : A) (xs : List A) → ((i : ℕ) → i < length xs → P (getD xs i d)) → Each P xs
 each-list P d [] h = tt
 each-list P d (x ∷ xs) h = (h 0 (omega arith), each-list P d xs (λ i l. h (suc i) (omega arith)))
-
-pub list-each : {A : Type 0} (P : A → Type 0) (d : A) (xs : List A) → Each P xs → (i : ℕ) → i < length xs → P (getD xs i d)
-list-each P d [] h i l = absurd (lt-irrefl zero (omega arith))
-list-each P d (x ∷ xs) h zero l = h .0
-list-each P d (x ∷ xs) h (suc i) l = list-each P d xs (h .1) i (omega arith)
 
 -- ---- lists by rule
 
@@ -61,11 +38,6 @@ rows-next : {A : Type 0} (n : ℕ) (f : ℕ → A) → rows (suc n) f ≡ rows n
 unfolding rows
 rows-next zero f = refl
 rows-next {A} (suc n) f = ap (λ (xs : List A). f 0 ∷ xs) (rows-next n (λ i. f (suc i)))
-
-pub rows-map : {A B : Type 0} (g : A → B) (n : ℕ) (f : ℕ → A) → map g (rows n f) ≡ rows n (λ i. g (f i))
-unfolding rows
-rows-map g zero f = refl
-rows-map {A} {B} g (suc n) f = ap (λ (xs : List B). g (f 0) ∷ xs) (rows-map g n (λ i. f (suc i)))
 
 pub rows-all : {A : Type 0} (d : A) (xs : List A) → rows (length xs) (λ i. getD xs i d) ≡ xs
 unfolding rows

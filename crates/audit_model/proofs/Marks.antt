@@ -3,64 +3,30 @@ use mathlib.Core.Path.{_≡_, refl, sym, ap, _∙_}
 use mathlib.Core.Logic.{_≢_, _⊎_, inl, inr}
 use mathlib.Core.Bool.{true}
 use mathlib.Core.List.{List}
-use Prim.Native.Nat.{ℕ, zero, _+_, _≤_, _<_}
-use native.Mathlib.Decide.{ℕ-discrete, decLt}
-use native.Mathlib.Nat.{lt-irrefl}
+use Prim.Native.Nat.{ℕ, _+_, _≤_, _<_}
+use native.Mathlib.Decide.{decLt}
 use native.Mathlib.Omega.{arith}
-use lib.Dec.{eqb}
 use lib.ListN.{getD}
-use borrow.Author.Tests.{eqb-true, eq-eqb, ne-eqb}
 use Rattle.meaning.specs.Limits.{BRANCH}
-use Rattle.meaning.specs.Counting.{howMany, occurrences, rows, Each}
-use Rattle.meaning.specs.Lent.{Nodes, kindOf, usedOf, cellOf, childCount, emptyRecord, closedRecord, walkRecord, walkRecords, Lent, size}
-use Rattle.meaning.specs.Links.{liveRoots, roots, cellLinks, Reached, byRoot, byCell}
+use Rattle.meaning.specs.Counting.{occurrences, rows, Each}
+use Rattle.meaning.specs.Lent.{kindOf, usedOf, cellOf, emptyRecord, walkRecord, walkRecords, Lent, size}
+use Rattle.meaning.specs.Links.{liveRoots, roots, Reached, byRoot, byCell}
 use Rattle.meaning.specs.WellFormed.{LegalVersion, LegalWalk, SizesFit}
-use Rattle.meaning.proofs.Lists.{many-none, many-some, occurs-append}
+use Rattle.meaning.proofs.Lists.{occurs-append, each-getD, each-row, each-rows}
+use Rattle.meaning.proofs.Nodes.{child-linked, links-cell}
 use Rattle.audit_model.specs.Audit.{versionCount, walkCount, Blank, versionOf, versionsOk, walksOk, recordsOk}
 use Rattle.audit_model.proofs.Done.{Good, Done, done-then, done-through}
 use Rattle.audit_model.proofs.Visits.{code-some}
-use Rattle.audit_model.proofs.Levels.{rows-length, rows-at}
 use Rattle.audit_model.proofs.Slots.{Root, version-done, walk-done}
-use Rattle.audit_model.proofs.Lists.{many-one, each-list, list-each, root-occurs, occurs-root}
+use Rattle.audit_model.proofs.Lists.{each-list, root-occurs, occurs-root}
 use Rattle.audit_model.proofs.Counts.{roots-are}
-
--- ---- cells
-
-pub cell-links : (s : Nodes) (m i : ℕ) → kindOf s m ≡ BRANCH → i < usedOf s m → 1 ≤ cellLinks s m (cellOf s m i)
-unfolding cellLinks childCount
-cell-links s m i k l =
-    let n : ℕ = cellOf s m i in
-    let c : childCount s m ≡ usedOf s m = rw k refl in
-    many-one (childCount s m) (λ j. eqb (cellOf s m j) n) i (rw c l) (eq-eqb n n refl)
-
--- a cell that links n
-pub record CellLink (s : Nodes) (m n : ℕ) : Type 0 where
-  pub branch : kindOf s m ≡ BRANCH
-  pub place : ℕ
-  pub below : place < usedOf s m
-  pub is : cellOf s m place ≡ n
-
-pub links-cell : (s : Nodes) (m n : ℕ) → 1 ≤ cellLinks s m n → CellLink s m n
-unfolding cellLinks childCount
-links-cell s m n l = by (ℕ-discrete (kindOf s m) BRANCH)
-  where
-    by : Dec (kindOf s m ≡ BRANCH) → CellLink s m n
-    by (yes k) =
-        let c : childCount s m ≡ usedOf s m = rw k refl in
-        let r = many-some (childCount s m) (λ i. eqb (cellOf s m i) n) l in
-        record { branch = k; place = r .0; below = omega (arith, r .1); is = eqb-true _ _ (r .2) }
-    by (no f) =
-        let none : howMany (childCount s m) (λ i. eqb (cellOf s m i) n) ≡ 0 = many-none _ _ (rw (ne-eqb (kindOf s m) BRANCH f) refl) in
-        absurd (lt-irrefl zero (omega arith))
-
--- ---- all records
 
 module _ (s : Lent) (fit : SizesFit s) where
   abbrev P : ℕ → Type 0
   P = Reached (s .nodes) (roots s)
 
   by-cell : (n i : ℕ) → Reached (s .nodes) (roots s) n → kindOf (s .nodes) n ≡ BRANCH → i < usedOf (s .nodes) n → Reached (s .nodes) (roots s) (cellOf (s .nodes) n i)
-  by-cell n i p k l = byCell p (cell-links (s .nodes) n i k l)
+  by-cell n i p k l = byCell p (child-linked (s .nodes) n i k l)
 
   split : (n : ℕ) → occurrences n (roots s)
       ≡ occurrences n (liveRoots (rows versionCount (versionOf (s .versions)))) + occurrences n (liveRoots (rows walkCount (λ i. walkRecord (s .walks) i .version)))
@@ -115,20 +81,10 @@ module _ (s : Lent) (fit : SizesFit s) where
   -- each record is legal, as well-formedness says it
   pub legal-each : Legal → Each (LegalVersion (s .nodes)) (s .versions) × Each (LegalWalk (s .nodes)) (walkRecords s)
   unfolding walkRecords
-  legal-each h = (
-    each-list (LegalVersion (s .nodes)) emptyRecord (s .versions) (λ i l. h .0 i (omega (arith, fit .versions))),
-    each-list (LegalWalk (s .nodes)) closedRecord (rows walkCount (walkRecord (s .walks))) (λ i l. by i (omega (arith, rows-length walkCount (walkRecord (s .walks))))),
-  )
-    where
-      by : (i : ℕ) → i < walkCount → LegalWalk (s .nodes) (getD (rows walkCount (walkRecord (s .walks))) i closedRecord)
-      by i l = rw (rows-at walkCount (walkRecord (s .walks)) closedRecord i l) (h .1 i l)
+  legal-each h =
+      (each-list (LegalVersion (s .nodes)) emptyRecord (s .versions) (λ i l. h .0 i (omega (arith, fit .versions))), each-rows (LegalWalk (s .nodes)) walkCount (walkRecord (s .walks)) (h .1))
 
   pub each-legal : Each (LegalVersion (s .nodes)) (s .versions) → Each (LegalWalk (s .nodes)) (walkRecords s) → Legal
   unfolding walkRecords
-  each-legal hv hw = (
-    λ i l. list-each (LegalVersion (s .nodes)) emptyRecord (s .versions) hv i (omega (arith, fit .versions)),
-    λ i l. by i l (list-each (LegalWalk (s .nodes)) closedRecord (rows walkCount (walkRecord (s .walks))) hw i (omega (arith, rows-length walkCount (walkRecord (s .walks))))),
-  )
-    where
-      by : (i : ℕ) → i < walkCount → LegalWalk (s .nodes) (getD (rows walkCount (walkRecord (s .walks))) i closedRecord) → LegalWalk (s .nodes) (walkRecord (s .walks) i)
-      by i l k = rw (rows-at walkCount (walkRecord (s .walks)) closedRecord i l) at k
+  each-legal hv hw =
+      (λ i l. each-getD (LegalVersion (s .nodes)) (s .versions) i emptyRecord hv (inl refl), each-row (LegalWalk (s .nodes)) walkCount (walkRecord (s .walks)) hw)

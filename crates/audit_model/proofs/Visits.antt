@@ -4,19 +4,19 @@ use mathlib.Core.Logic.{_≢_, inr}
 use mathlib.Core.Bool.{Bool, true, false}
 use mathlib.Core.List.{List}
 use Prim.Native.Nat.{ℕ, zero, suc, _-_, _*_, _^_, _≤_, _<_, min}
-use native.Mathlib.Decide.{ℕ-discrete, decLt}
+use native.Mathlib.Decide.{ℕ-discrete}
 use native.Mathlib.Nat.{lt-irrefl}
 use native.Mathlib.Omega.{arith}
 use lib.Dec.{eqb, ltb}
-use lib.ListN.{length, getD, set, length-set, List·getD-eq-default}
+use lib.ListN.{length, getD, set, length-set}
 use lib.Seq.{getD-set-same, getD-set-other}
 use borrow.Author.Tests.{eqb-true, leb-true, ltb-true, eq-eqb, le-leb, lt-ltb, ltb-false}
-use Rattle.meaning.specs.Limits.{FREE, BRANCH, maxLength}
+use Rattle.meaning.specs.Limits.{BRANCH, maxLength}
 use Rattle.meaning.specs.Lent.{Nodes, kindOf, usedOf, cellOf}
 use Rattle.meaning.specs.Shape.{degree}
 use Rattle.meaning.specs.Trees.{Shaped}
-use Rattle.meaning.proofs.Reaching.{shaped-used}
 use Rattle.meaning.proofs.Booleans.{both-true}
+use Rattle.meaning.proofs.Reaching.{shaped-inside}
 use Rattle.audit_model.specs.Descent.{code, Answer, answer, pick, andThen, through, marked, leafOk, branchOk, known, child, visit}
 use Rattle.audit_model.proofs.Tests.{true≢false, true-both}
 use Rattle.audit_model.proofs.Done.{Numbers, Good, Grows, Done, done-refused, done-tested, done-as, done-then, done-through}
@@ -32,17 +32,6 @@ unfolding code
 code-some b h m l = omega arith
 
 -- ---- shapes
-
--- a number that is no node is of kind free
-pub used-node : (s : Nodes) (n : ℕ) → kindOf s n ≢ FREE → n < length (s .kinds)
-used-node s n f = by (decLt n (length (s .kinds)))
-  where
-    by : Dec (n < length (s .kinds)) → n < length (s .kinds)
-    by (yes l) = l
-    by (no g) = absurd (f (List·getD-eq-default (s .kinds) FREE {n = n} (omega arith)))
-
-shaped-node : (s : Nodes) (b h m n : ℕ) → Shaped s b h m n → n < length (s .kinds)
-shaped-node s b h m n p = used-node s n (shaped-used s b h m n p)
 
 leaf-shaped : (s : Nodes) (b m n : ℕ) → leafOk (kindOf s n) (usedOf s n) b m ≡ true → Shaped s b 0 m n
 unfolding leafOk Shaped
@@ -105,7 +94,7 @@ module _ (s : Nodes) (P : ℕ → Type 0) where
   }
     where
       inside : n < length t
-      inside = omega (arith, g .room, shaped-node s b h m n z)
+      inside = omega (arith, g .room, shaped-inside s b h m n z)
 
       grow : Grows t (set t n (code b h m))
       grow = mark-grows t n (code b h m) inside (code-some b h m (w .bits .least)) .0
@@ -135,7 +124,7 @@ module _ (s : Nodes) (P : ℕ → Type 0) (step : (n i : ℕ) → P n → kindOf
       → ((i : ℕ) → kindOf s n ≡ BRANCH → i < usedOf s n → getD t (cellOf s n i) 0 ≢ 0) → Visited s P b h m n t (marked n (code b h m) t)
   unfolding marked
   visited-marked b h m n t w p g z below =
-      let x = mark-grows t n (code b h m) (omega (arith, g .room, shaped-node s b h m n z)) (code-some b h m (w .bits .least)) in
+      let x = mark-grows t n (code b h m) (omega (arith, g .room, shaped-inside s b h m n z)) (code-some b h m (w .bits .least)) in
       record {
         shows = λ _. z;
         good = λ _. mark-good s P b h m n t w g p z below;
@@ -156,7 +145,7 @@ module _ (s : Nodes) (P : ℕ → Type 0) (step : (n i : ℕ) → P n → kindOf
 
       inside : (o : Bool) → ltb n (length (s .kinds)) ≡ o → Visited s P b h m n t (pick o (pick (eqb (getD t n 0) (code b h m)) (answer true t) a) (answer false t))
       inside true e = again (eqb (getD t n 0) (code b h m)) refl
-      inside false e = done-refused s P t t (λ z. lt-irrefl zero (omega (arith, shaped-node s b h m n z, ltb-false n (length (s .kinds)) e)))
+      inside false e = done-refused s P t t (λ z. lt-irrefl zero (omega (arith, shaped-inside s b h m n z, ltb-false n (length (s .kinds)) e)))
 
   pub visit-done : (h b m n : ℕ) (t : List ℕ) → Numbers b h m → P n → Good s P t → Visited s P b h m n t (visit s b h m n t)
   unfolding visit pick

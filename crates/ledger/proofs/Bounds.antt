@@ -15,8 +15,8 @@ use Rattle.meaning.specs.Lent.{kindOf, usedOf, cellOf}
 use Rattle.store.specs.Store.{Store, nodeCount}
 use Rattle.ledger.specs.Kept.{Keeping, countIn, linksIn}
 use Rattle.meaning.proofs.Sums.{sum-add, sum-le, many-one, occurs-le}
-use Rattle.ledger.proofs.Links.{links-le, child-linked}
-use Rattle.ledger.proofs.Facts.{used-inside, children-le, counted-links, order-sum, order-once, counted-used, counted-unordered}
+use Rattle.meaning.proofs.Nodes.{child-linked, links-le, used-inside}
+use Rattle.ledger.proofs.Facts.{children-le, counted-links, order-sum, order-once, counted-used, counted-unordered}
 
 module _ {s : Store} {roots pending : List ℕ} (k : Keeping s roots pending) where
   -- no count exceeds 32 N and the number of roots

@@ -2,68 +2,24 @@
 use mathlib.Core.Path.{_≡_, _∙_}
 use mathlib.Core.Logic.{_≢_, _⊎_, inl, inr}
 use mathlib.Core.List.{List}
-use Prim.Native.Nat.{ℕ, zero, _+_, _*_, _≤_, _<_}
+use Prim.Native.Nat.{ℕ, zero, _+_, _≤_, _<_}
 use native.Mathlib.Nat.{lt-irrefl, eq-zero-or-pos}
 use native.Mathlib.Decide.{ℕ-discrete, decLt}
 use native.Mathlib.Omega.{arith}
-use lib.ListN.{length, take, List·getD-eq-default}
+use lib.ListN.{take, List·getD-eq-default}
 use lib.Seq.{length-take-le}
-use borrow.Author.Tests.{ne-eqb, lt-ltb, le-ltb}
 use Rattle.meaning.specs.Limits.{nodeCells, FREE, BRANCH}
-use Rattle.meaning.specs.Counting.{sumTo, bit, occurrences}
-use Rattle.meaning.specs.Lent.{Nodes, kindOf, isFree, childCount}
+use Rattle.meaning.specs.Counting.{sumTo, occurrences}
+use Rattle.meaning.specs.Lent.{kindOf, isFree, childCount}
 use Rattle.meaning.specs.Links.{cellLinks}
 use Rattle.meaning.proofs.Lists.{sum-none}
 use Rattle.store.specs.Store.{Store, nodeCount}
 use Rattle.ledger.specs.Kept.{Keeping, countIn, linksIn}
 use Rattle.meaning.proofs.Sums.{occurs-sum, bit-le}
-use Rattle.ledger.proofs.Links.{branch-count, other-count, links-branch}
-
--- ---- free, as a bit
-
-pub past-free : (s : Nodes) (n : ℕ) → length (s .kinds) ≤ n → kindOf s n ≡ FREE
-past-free s n l = List·getD-eq-default (s .kinds) FREE l
-
-pub used-inside : (s : Nodes) (n : ℕ) → kindOf s n ≢ FREE → n < length (s .kinds)
-used-inside s n f = pick (decLt n (length (s .kinds)))
-  where
-    pick : Dec (n < length (s .kinds)) → n < length (s .kinds)
-    pick (yes l) = l
-    pick (no g) = absurd (f (past-free s n (omega arith)))
-
-pub used-bit : (s : Nodes) (n : ℕ) → kindOf s n ≢ FREE → bit (isFree s n) ≡ 0
-unfolding isFree
-used-bit s n f = rw (lt-ltb n (length (s .kinds)) (used-inside s n f), ne-eqb (kindOf s n) FREE f)
-
-pub free-bit : (s : Nodes) (n : ℕ) → n < length (s .kinds) → kindOf s n ≡ FREE → bit (isFree s n) ≡ 1
-unfolding isFree
-free-bit s n l e = rw (lt-ltb n (length (s .kinds)) l, e)
-
-pub past-bit : (s : Nodes) (n : ℕ) → length (s .kinds) ≤ n → bit (isFree s n) ≡ 0
-unfolding isFree
-past-bit s n l = rw (le-ltb n (length (s .kinds)) l)
-
-pub bit-free : (s : Nodes) (n : ℕ) → 1 ≤ bit (isFree s n) → (n < length (s .kinds)) × (kindOf s n ≡ FREE)
-bit-free s n l = (inside (decLt n (length (s .kinds))), free (ℕ-discrete (kindOf s n) FREE))
-  where
-    inside : Dec (n < length (s .kinds)) → n < length (s .kinds)
-    inside (yes q) = q
-    inside (no g) = absurd (lt-irrefl zero (omega (arith, past-bit s n (omega arith))))
-
-    free : Dec (kindOf s n ≡ FREE) → kindOf s n ≡ FREE
-    free (yes e) = e
-    free (no g) = absurd (lt-irrefl zero (omega (arith, used-bit s n g)))
-
--- a node that reads the same kind is free in both or in neither
-pub same-bit : (s t : Nodes) (n : ℕ) → length (t .kinds) ≡ length (s .kinds) → kindOf t n ≡ kindOf s n → bit (isFree t n) ≡ bit (isFree s n)
-unfolding isFree
-same-bit s t n e k = rw (e, k)
+use Rattle.meaning.proofs.Nodes.{branch-count, other-count, past-bit, past-free, used-bit}
 
 module _ {s : Store} {roots pending : List ℕ} (k : Keeping s roots pending) where
   -- ---- nodes
-
-  pub node-fits : (n : ℕ) → n < nodeCount s → nodeCells * n + nodeCells ≤ length (s .nodes .cells)
-  node-fits n l = omega (arith, k .sized .cells)
 
   pub children-le : (m : ℕ) → childCount (s .nodes) m ≤ nodeCells
   children-le m = pick (ℕ-discrete (kindOf (s .nodes) m) BRANCH)
@@ -71,9 +27,6 @@ module _ {s : Store} {roots pending : List ℕ} (k : Keeping s roots pending) wh
       pick : Dec (kindOf (s .nodes) m ≡ BRANCH) → childCount (s .nodes) m ≤ nodeCells
       pick (yes e) = omega (arith, branch-count (s .nodes) m e, k .fits m (λ d. lt-irrefl zero (omega arith)))
       pick (no f) = omega (arith, other-count (s .nodes) m f)
-
-  pub linking-used : (m n : ℕ) → 1 ≤ cellLinks (s .nodes) m n → kindOf (s .nodes) m ≢ FREE
-  linking-used m n l e = lt-irrefl zero (omega (arith, links-branch (s .nodes) m n l))
 
   -- nothing links a free node, nor a number that is no node's
   pub free-unrooted : (n : ℕ) → kindOf (s .nodes) n ≡ FREE → occurrences n roots ≡ 0

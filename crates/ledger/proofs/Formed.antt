@@ -14,9 +14,8 @@ use Rattle.meaning.specs.WellFormed.{WellFormed}
 use Rattle.meaning.proofs.Lists.{many-le}
 use Rattle.ledger.specs.Kept.{Kept, linksIn, storeIn}
 use Rattle.meaning.proofs.Sums.{term-le, occurs-none}
-use Rattle.ledger.proofs.Links.{links-branch}
-use Rattle.ledger.proofs.Facts.{used-inside}
 use Rattle.meaning.proofs.Reaching.{SomeShape, all-shaped}
+use Rattle.meaning.proofs.Nodes.{linking-used, used-inside}
 use Rattle.ledger.proofs.Heights.{shape-falls, shape-fits}
 
 module _ (s : Lent) (w : WellFormed s) where
@@ -27,22 +26,19 @@ module _ (s : Lent) (w : WellFormed s) where
   heightBy n (yes e) = 0
   heightBy n (no f) = shaped n f .height
 
-  linking-used : (m n : ℕ) → 1 ≤ cellLinks (s .nodes) m n → kindOf (s .nodes) m ≢ FREE
-  linking-used m n l e = lt-irrefl zero (omega (arith, links-branch (s .nodes) m n l))
-
   celled : (m n : ℕ) → 1 ≤ cellLinks (s .nodes) m n → kindOf (s .nodes) n ≢ FREE
-  celled m n l = w .reached n .1 (byCell (w .reached m .0 (linking-used m n l)) l)
+  celled m n l = w .reached n .1 (byCell (w .reached m .0 (linking-used (s .nodes) m n l)) l)
 
   falls : (m n : ℕ) → 1 ≤ cellLinks (s .nodes) m n → (d : Dec (kindOf (s .nodes) n ≡ FREE)) (e : Dec (kindOf (s .nodes) m ≡ FREE)) → heightBy n d < heightBy m e
   unfolding heightBy
   falls m n l (yes d) e = absurd (celled m n l d)
-  falls m n l (no g) (yes e) = absurd (linking-used m n l e)
+  falls m n l (no g) (yes e) = absurd (linking-used (s .nodes) m n l e)
   falls m n l (no g) (no f) = shape-falls (s .nodes) m n (shaped m f) (shaped n g) l
 
   linked : (n : ℕ) → Reached (s .nodes) (roots s) n → 1 ≤ occurrences n (roots s) + linksIn (storeIn s) n
   linked n (byRoot l) = omega arith
   linked n (byCell {m = m} r l) =
-      let one : cellLinks (s .nodes) m n ≤ linksIn (storeIn s) n = term-le (size s) (λ j. cellLinks (s .nodes) j n) m (used-inside (s .nodes) m (linking-used m n l)) in
+      let one : cellLinks (s .nodes) m n ≤ linksIn (storeIn s) n = term-le (size s) (λ j. cellLinks (s .nodes) j n) m (used-inside (s .nodes) m (linking-used (s .nodes) m n l)) in
       omega arith
 
   when-free : (n : ℕ) → kindOf (s .nodes) n ≡ FREE → Dec (n < size s) → (usedOf (s .nodes) n ≡ 0) × (countOf s n ≡ 0)

@@ -3,16 +3,14 @@ use mathlib.Core.Path.{_≡_, refl, ap}
 use Prim.Native.Nat.{ℕ, zero, suc, _+_, _-_, _*_, _^_, _≤_, _<_, min}
 use native.Mathlib.Nat.{lt-irrefl, le-trans, one-le-pow, mul-le-mul-right, pow-le-pow-right}
 use native.Mathlib.Omega.{arith}
-use lib.Dec.{eqb, lit≤}
-use borrow.Author.Tests.{eqb-true}
+use lib.Dec.{lit≤}
 use Rattle.meaning.specs.Limits.{nodeCells}
-use Rattle.meaning.specs.Lent.{Nodes, usedOf, cellOf, childCount}
+use Rattle.meaning.specs.Lent.{Nodes, usedOf, cellOf}
 use Rattle.meaning.specs.Shape.{degree}
 use Rattle.meaning.specs.Trees.{Shaped}
 use Rattle.meaning.specs.Links.{cellLinks}
-use Rattle.meaning.proofs.Lists.{many-some}
 use Rattle.meaning.proofs.Reaching.{SomeShape}
-use Rattle.ledger.proofs.Links.{branch-count, other-linkless}
+use Rattle.meaning.proofs.Nodes.{links-cell}
 
 -- ---- children
 
@@ -26,12 +24,10 @@ child-full u c m i l needed b = omega (arith, mul-le-mul-right c b)
 
 -- what a branch links stands one lower, and is not empty
 child-shape : (s : Nodes) (bits h m p n : ℕ) → Shaped s bits (suc h) m p → 1 ≤ cellLinks s p n → (e : ℕ) × (1 ≤ e) × Shaped s bits h e n
-unfolding Shaped cellLinks
+unfolding Shaped
 child-shape s bits h m p n q l =
-    let c = many-some (childCount s p) (λ i. eqb (cellOf s p i) n) l in
-    let e : cellOf s p (c .0) ≡ n = eqb-true _ _ (c .2) in
-    let b : c .0 < usedOf s p = omega (arith, c .1, branch-count s p (q .kind)) in
-    (_, child-full (usedOf s p) (degree bits ^ suc h) m (c .0) (full bits (suc h)) (q .needed) b, rw e at (q .children (c .0) b))
+    let c = links-cell s p n l in
+    (_, child-full (usedOf s p) (degree bits ^ suc h) m (c .place) (full bits (suc h)) (q .needed) (c .below), rw (c .is) at (q .children (c .place) (c .below)))
 
 some-child : (u c m : ℕ) → 1 ≤ m → m ≤ u * c → 1 ≤ u
 some-child zero c m l enough = omega arith
@@ -55,7 +51,7 @@ unfolding Shaped
 shape-falls s p n d e l = go (d .height) (d .shape)
   where
     go : (h : ℕ) → Shaped s (d .bits) h (d .elements) p → e .height < h
-    go zero q = absurd (lt-irrefl zero (omega (arith, other-linkless s p n (λ z. lt-irrefl zero (omega (arith, q .kind))))))
+    go zero q = absurd (lt-irrefl zero (omega (arith, q .kind, links-cell s p n l .branch)))
     go (suc h) q =
         let c = child-shape s (d .bits) h (d .elements) p n q l in
         omega (arith, heights-agree s (d .bits) h (c .0) (e .bits) (e .height) (e .elements) n (c .1) (c .2) (e .shape))

@@ -19,7 +19,8 @@ use Rattle.sweep.specs.Sweep.{lowerFrom, lower, lowers}
 use Rattle.ledger.specs.Kept.{Keeping, countIn}
 use Rattle.ledger.specs.Pending.{waiting, fallen, allFallen}
 use Rattle.meaning.proofs.Sums.{bit-same, bit-other, occurs-none, occurs-cons, occurs-one, occurs-first}
-use Rattle.ledger.proofs.Facts.{used-inside, counted-settled}
+use Rattle.meaning.proofs.Nodes.{used-inside}
+use Rattle.ledger.proofs.Facts.{counted-settled}
 use Rattle.ledger.proofs.Bounds.{room-left}
 
 -- what a lowered count makes of counts and order, whether it falls to 0 or not

@@ -20,11 +20,13 @@ use Rattle.store.specs.Store.{Store, nodeCount, top, writeNode, make, raised}
 use Rattle.ledger.specs.Kept.{Kept, countIn, linksIn}
 use Rattle.store.specs.Ready.{Sized}
 use Rattle.store.specs.Frame.{Same}
+use Rattle.store.proofs.Making.{sized-place, write-cell, write-same}
 use Rattle.ledger.specs.Frame.{Filled}
 use Rattle.meaning.proofs.Sums.{term-le, bit-same, bit-other, occurs-none, occurs-cons}
+use Rattle.meaning.proofs.Nodes.{free-linkless, other-linkless, same-bit, used-bit, used-inside}
 use Rattle.cells.proofs.CellLaws.{put-length}
-use Rattle.ledger.proofs.Links.{other-linkless, free-linkless, links-same, sum-but, write-same, write-cell, write-links}
-use Rattle.ledger.proofs.Facts.{used-inside, used-bit, same-bit, node-fits, children-le, free-unlinked, order-once}
+use Rattle.ledger.proofs.Links.{links-same, sum-but, write-links}
+use Rattle.ledger.proofs.Facts.{children-le, free-unlinked, order-once}
 use Rattle.ledger.proofs.Taking.{order-top, top-inside, top-free, top-unrooted, used-not-top}
 use Rattle.ledger.proofs.Raising.{raised-keeps}
 
@@ -38,7 +40,7 @@ module _ {s : Store} (kind : ℕ) {u : ℕ} {a old : List ℕ} (k : Kept s old) 
   -- every other node stays as it was
   pub make-same : (n : ℕ) → n ≢ top s → Same (s .nodes) (make s kind u a .nodes) n
   unfolding make
-  make-same n f = write-same (s .nodes) (top s) kind u a (filled .whole) (node-fits k (top s) inside) n f
+  make-same n f = write-same (s .nodes) (top s) kind u a (filled .whole) (sized-place s (top s) (k .sized) inside .cells) n f
 
   make-size : nodeCount made ≡ nodeCount s
   unfolding make writeNode
@@ -48,7 +50,7 @@ module _ {s : Store} (kind : ℕ) {u : ℕ} {a old : List ℕ} (k : Kept s old) 
   unfolding make writeNode
   make-sized = record {
     used = length-set (s .nodes .used) (top s) u ∙ k .sized .used ∙ sym make-size;
-    cells = put-length (s .nodes .cells) (top s) a (node-fits k (top s) inside) (filled .whole) ∙ k .sized .cells ∙ ap (λ (n : ℕ). nodeCells * n) (sym make-size);
+    cells = put-length (s .nodes .cells) (top s) a (sized-place s (top s) (k .sized) inside .cells) (filled .whole) ∙ k .sized .cells ∙ ap (λ (n : ℕ). nodeCells * n) (sym make-size);
     counts = length-set (s .counts) (top s) 1 ∙ k .sized .counts ∙ sym make-size;
     order = k .sized .order ∙ sym make-size;
   }
@@ -63,7 +65,7 @@ module _ {s : Store} (kind : ℕ) {u : ℕ} {a old : List ℕ} (k : Kept s old) 
 
   pub make-cell : (i : ℕ) → i < nodeCells → cellOf (make s kind u a .nodes) (top s) i ≡ getD a i 0
   unfolding make
-  make-cell i l = write-cell (s .nodes) (top s) kind u a (filled .whole) (node-fits k (top s) inside) i l
+  make-cell i l = write-cell (s .nodes) (top s) kind u a (filled .whole) (sized-place s (top s) (k .sized) inside .cells) i l
 
   make-count : countIn made (top s) ≡ 1
   unfolding make
@@ -85,7 +87,7 @@ module _ {s : Store} (kind : ℕ) {u : ℕ} {a old : List ℕ} (k : Kept s old) 
   pub branch-links : kind ≡ BRANCH → (n : ℕ) → cellLinks (made .nodes) (top s) n ≡ occurrences n (take u a)
   unfolding make
   branch-links e n =
-      write-links (s .nodes) (top s) kind u a (filled .whole) (node-fits k (top s) inside) n inside (omega (arith, inside, k .sized .used)) e (filled .fits)
+      write-links (s .nodes) (top s) kind u a (filled .whole) (sized-place s (top s) (k .sized) inside .cells) n inside (omega (arith, inside, k .sized .used)) e (filled .fits)
 
   stays-used : (n : ℕ) → kindOf (s .nodes) n ≢ FREE → kindOf (made .nodes) n ≢ FREE
   stays-used n f e = f (sym (make-same n (used-not-top k some n f) .kind) ∙ e)

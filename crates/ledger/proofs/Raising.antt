@@ -1,22 +1,21 @@
 -- Counts are raised by links that are about to be stored; the list of roots may be reordered.
-use mathlib.Core.Path.{_≡_, refl, sym, _∙_}
+use mathlib.Core.Path.{_≡_, _∙_}
 use mathlib.Core.Logic.{_≢_, _⊎_, inl, inr}
 use mathlib.Core.List.{List, [], _∷_, _++_}
 use Prim.Native.Nat.{ℕ, zero, _+_, _≤_, _<_}
 use native.Mathlib.Nat.{lt-irrefl, eq-zero-or-pos}
 use native.Mathlib.Decide.{ℕ-discrete, decLt}
 use native.Mathlib.Omega.{arith}
-use lib.Dec.{eqb}
-use lib.ListN.{length, getD, set, length-set, List·getD-eq-default}
-use lib.Seq.{getD-set-same, getD-set-other}
+use lib.ListN.{List·getD-eq-default}
 use Rattle.meaning.specs.Limits.{FREE}
-use Rattle.meaning.specs.Counting.{bit, occurrences}
+use Rattle.meaning.specs.Counting.{occurrences}
 use Rattle.meaning.specs.Lent.{kindOf}
 use Rattle.meaning.proofs.Lists.{occurs-append}
-use Rattle.store.specs.Store.{Store, nodeCount, raise, raises, raised}
+use Rattle.store.specs.Store.{Store, nodeCount, raises, raised}
+use Rattle.store.proofs.Raising.{raises-at, raises-length}
 use Rattle.ledger.specs.Kept.{Keeping, Kept, countIn}
-use Rattle.meaning.proofs.Sums.{bit-same, bit-other, occurs-none, occurs-cons}
-use Rattle.ledger.proofs.Facts.{used-inside}
+use Rattle.meaning.proofs.Sums.{bit-other, occurs-none, occurs-cons}
+use Rattle.meaning.proofs.Nodes.{used-inside}
 
 -- ---- roots in another order
 
@@ -40,31 +39,6 @@ roots-permute roots′ k e = record {
   rank = k .rank;
   falls = k .falls;
 }
-
--- ---- counts
-
-raise-length : (counts : List ℕ) (x : ℕ) → length (raise counts x) ≡ length counts
-unfolding raise
-raise-length counts x = length-set counts x _
-
-raise-at : (counts : List ℕ) (x n : ℕ) → n < length counts → getD (raise counts x) n 0 ≡ getD counts n 0 + bit (eqb x n)
-unfolding raise
-raise-at counts x n l = pick (ℕ-discrete n x)
-  where
-    pick : Dec (n ≡ x) → getD (set counts x (getD counts x 0 + 1)) n 0 ≡ getD counts n 0 + bit (eqb x n)
-    pick (yes e) = rw (← e) (getD-set-same counts n _ 0 l ∙ omega (arith, bit-same n))
-    pick (no f) = getD-set-other counts x n _ 0 f ∙ omega (arith, bit-other x n (λ e. f (sym e)))
-
-pub raises-length : (counts ns : List ℕ) → length (raises counts ns) ≡ length counts
-unfolding raises
-raises-length counts [] = refl
-raises-length counts (x ∷ ns) = raises-length (raise counts x) ns ∙ raise-length counts x
-
-pub raises-at : (counts ns : List ℕ) (n : ℕ) → n < length counts → getD (raises counts ns) n 0 ≡ getD counts n 0 + occurrences n ns
-unfolding raises
-raises-at counts [] n l = omega (arith, occurs-none n)
-raises-at counts (x ∷ ns) n l =
-    raises-at (raise counts x) ns n (omega (arith, raise-length counts x)) ∙ omega (arith, raise-at counts x n l, occurs-cons n x ns)
 
 -- ---- the store
 

@@ -15,7 +15,8 @@ use Rattle.meaning.proofs.Lists.{sum-same, many-all}
 use Rattle.store.specs.Store.{Store, nodeCount}
 use Rattle.ledger.specs.Kept.{Kept, linksIn}
 use Rattle.meaning.proofs.Sums.{sum-some, sum-add, term-le, occurs-none}
-use Rattle.ledger.proofs.Facts.{used-inside, used-bit, free-bit, linking-used, order-sum}
+use Rattle.meaning.proofs.Nodes.{free-bit, linking-used, used-bit, used-inside}
+use Rattle.ledger.proofs.Facts.{order-sum}
 
 module _ {s : Store} {roots : List ℕ} (k : Kept s roots) where
   -- ---- reached
@@ -31,7 +32,7 @@ module _ {s : Store} {roots : List ℕ} (k : Kept s roots) where
       pick (inl e) rest =
           let some : 1 ≤ linksIn s n = omega (arith, k .linked n f, k .counted n (used-inside (s .nodes) n f), occurs-none n) in
           let t = sum-some (nodeCount s) (λ m. cellLinks (s .nodes) m n) some in
-          byCell (rest (t .0) (linking-used k (t .0) n (t .2)) (omega (arith, k .falls (t .0) n (t .2)))) (t .2)
+          byCell (rest (t .0) (linking-used (s .nodes) (t .0) n (t .2)) (omega (arith, k .falls (t .0) n (t .2)))) (t .2)
 
   pub used-reached : (n : ℕ) → kindOf (s .nodes) n ≢ FREE → Reached (s .nodes) roots n
   used-reached n f = up (suc (sumTo (nodeCount s) (k .rank))) n f (omega arith)

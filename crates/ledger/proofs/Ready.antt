@@ -1,34 +1,26 @@
 -- What the code of the store and of a release requires holds in every kept state: no call above them has more to show.
 use mathlib.Core.Path.{_≡_}
 use mathlib.Core.Logic.{_≢_}
-use mathlib.Core.List.{List, [], _∷_}
-use Prim.Native.Nat.{ℕ, zero, suc, _^_, _≤_, _<_, min}
+use mathlib.Core.List.{List}
+use Prim.Native.Nat.{ℕ, zero, _^_, _≤_, _<_, min}
 use native.Mathlib.Nat.{lt-irrefl}
 use native.Mathlib.Decide.{ℕ-discrete, decLt}
 use native.Mathlib.Omega.{arith}
 use lib.ListN.{length, getD, take, length-take}
 use lib.Seq.{getD-take}
 use Rattle.meaning.specs.Limits.{maxNodes, FREE, BRANCH}
-use Rattle.meaning.specs.Counting.{occurrences}
 use Rattle.meaning.specs.Lent.{kindOf, usedOf, cellOf, childCount}
-use Rattle.meaning.proofs.Sums.{bit-same}
+use Rattle.meaning.proofs.Sums.{occurs-at}
+use Rattle.meaning.proofs.Nodes.{branch-count, other-count, used-inside}
 use Rattle.cells.specs.Cells.{cellsOf}
 use Rattle.store.specs.Store.{Store, nodeCount, childrenOf}
 use Rattle.store.specs.Ready.{FreeOnTop, Room, AllBelow}
 use Rattle.sweep.specs.Ready.{live, Whole, Releasable}
 use Rattle.ledger.specs.Kept.{Kept}
 use Rattle.cells.proofs.CellLaws.{cells-at}
-use Rattle.ledger.proofs.Links.{branch-count, other-count}
-use Rattle.ledger.proofs.Facts.{used-inside, children-le, order-past}
+use Rattle.ledger.proofs.Facts.{children-le, order-past}
 use Rattle.ledger.proofs.Bounds.{count-bound, child-inside, linked-room}
 use Rattle.ledger.proofs.Taking.{top-inside}
-
--- what stands in a list occurs in it
-occurs-at : (xs : List ℕ) (i : ℕ) → i < length xs → 1 ≤ occurrences (getD xs i 0) xs
-unfolding occurrences
-occurs-at [] i l = absurd (lt-irrefl zero (omega arith))
-occurs-at (x ∷ xs) zero l = omega (arith, bit-same x)
-occurs-at (x ∷ xs) (suc i) l = omega (arith, occurs-at xs i (omega arith))
 
 module _ {s : Store} {roots : List ℕ} (k : Kept s roots) where
   -- what stands on the free order are nodes

@@ -20,9 +20,11 @@ use Rattle.ledger.specs.Kept.{Keeping, countIn, linksIn}
 use Rattle.store.specs.Ready.{Sized}
 use Rattle.ledger.specs.Pending.{waiting, allFallen}
 use Rattle.store.specs.Frame.{Same}
+use Rattle.store.proofs.Making.{sized-place}
 use Rattle.meaning.proofs.Sums.{term-le, bit-same, bit-other, occurs-cons, occurs-first}
-use Rattle.ledger.proofs.Links.{free-linkless, links-same, links-children, sum-but}
-use Rattle.ledger.proofs.Facts.{used-inside, used-bit, free-bit, same-bit, node-fits, children-le, linking-used, counted-links, counted-used}
+use Rattle.meaning.proofs.Nodes.{free-bit, free-linkless, linking-used, same-bit, used-bit, used-inside}
+use Rattle.ledger.proofs.Links.{links-same, links-children, sum-but}
+use Rattle.ledger.proofs.Facts.{children-le, counted-links, counted-used}
 use Rattle.ledger.proofs.Lowering.{lowers-keeps, lowers-waiting}
 
 -- every other node stays as it was
@@ -69,7 +71,7 @@ module _ {s : Store} {n : ℕ} {roots pending : List ℕ} (k : Keeping s roots (
         arith,
         sum-but (s .nodes) (vacate s n .nodes) (nodeCount s) n x inside (children-le k) (vacate-same s n),
         free-linkless (vacate s n .nodes) n x (vacate-kind s n),
-        links-children (s .nodes) n x (children-le k n) (node-fits k n inside),
+        links-children (s .nodes) n x (children-le k n) (sized-place s n (k .sized) inside .cells),
       ))
 
   used-other : (m : ℕ) → kindOf (vacate s n .nodes) m ≢ FREE → m ≢ n
@@ -123,7 +125,7 @@ module _ {s : Store} {n : ℕ} {roots pending : List ℕ} (k : Keeping s roots (
       pick (no f) =
           let e = vacate-linked m x f in
           let c : 1 ≤ cellLinks (s .nodes) m x = omega arith in
-          let one : cellLinks (s .nodes) m x ≤ linksIn s x = term-le (nodeCount s) (λ j. cellLinks (s .nodes) j x) m (used-inside (s .nodes) m (linking-used k m x c)) in
+          let one : cellLinks (s .nodes) m x ≤ linksIn s x = term-le (nodeCount s) (λ j. cellLinks (s .nodes) j x) m (used-inside (s .nodes) m (linking-used (s .nodes) m x c)) in
           (e, linked-used x (omega arith))
 
   when-free : (m : ℕ) → kindOf (vacate s n .nodes) m ≡ FREE → Dec (m ≡ n) → (usedOf (vacate s n .nodes) m ≡ 0) × (countIn s m ≡ 0)

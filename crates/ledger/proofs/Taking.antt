@@ -15,7 +15,8 @@ use Rattle.meaning.proofs.Lists.{occurs-append}
 use Rattle.store.specs.Store.{Store, nodeCount, top}
 use Rattle.ledger.specs.Kept.{Kept, countIn}
 use Rattle.meaning.proofs.Sums.{bit-same, occurs-one, occurs-none}
-use Rattle.ledger.proofs.Facts.{bit-free, free-unrooted, free-uncelled}
+use Rattle.meaning.proofs.Nodes.{bit-free}
+use Rattle.ledger.proofs.Facts.{free-unrooted, free-uncelled}
 
 module _ {s : Store} {roots : List ℕ} (k : Kept s roots) (some : 0 < s .free) where
   -- it is the last of the free order

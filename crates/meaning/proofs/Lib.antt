@@ -8,6 +8,7 @@ pub mod Lists
 pub mod Sums
 pub mod Rows
 pub mod FreshLaws
+pub mod Nodes
 pub mod Reaching
 pub mod Shared
 pub mod Damaged

@@ -6,7 +6,7 @@ use mathlib.Core.List.{List, [], _∷_, _++_}
 use Prim.Native.Nat.{ℕ, zero, suc, _+_, _≤_, _<_}
 use native.Mathlib.Nat.{lt-irrefl, eq-or-lt-of-le, le-of-suc-le-suc}
 use native.Mathlib.Omega.{arith}
-use lib.ListN.{getD, replicate}
+use lib.ListN.{getD, set, replicate}
 use borrow.Author.Tests.{ne-eqb}
 use Rattle.meaning.specs.Counting.{sumTo, bit, howMany, occurrences, rows, Each}
 
@@ -84,14 +84,29 @@ pub each-append : {A : Type 0} (P : A → Type 0) (xs ys : List A) → Each P xs
 each-append P [] ys h k = k
 each-append P (x ∷ xs) ys h k = (h .0, each-append P xs ys (h .1) k)
 
+pub each-split : {A : Type 0} (P : A → Type 0) (xs ys : List A) → Each P (xs ++ ys) → Each P xs × Each P ys
+each-split P [] ys h = (tt, h)
+each-split P (x ∷ xs) ys h = let rest = each-split P xs ys (h .1) in ((h .0, rest .0), rest .1)
+
+pub each-set : {A : Type 0} (P : A → Type 0) (xs : List A) (n : ℕ) (x : A) → Each P xs → P x → Each P (set xs n x)
+each-set P [] n x h k = tt
+each-set P (y ∷ xs) zero x h k = (k, h .1)
+each-set P (y ∷ xs) (suc n) x h k = (h .0, each-set P xs n x (h .1) k)
+
 pub each-replicate : {A : Type 0} (P : A → Type 0) (n : ℕ) (x : A) → P x → Each P (replicate n x)
 each-replicate P zero x h = tt
 each-replicate P (suc n) x h = (h, each-replicate P n x h)
 
-pub each-rows : {A : Type 0} (P : A → Type 0) (n : ℕ) (f : ℕ → A) → ((i : ℕ) → P (f i)) → Each P (rows n f)
+pub each-rows : {A : Type 0} (P : A → Type 0) (n : ℕ) (f : ℕ → A) → ((i : ℕ) → i < n → P (f i)) → Each P (rows n f)
 unfolding rows
 each-rows P zero f h = tt
-each-rows P (suc n) f h = (h 0, each-rows P n (λ i. f (suc i)) (λ i. h (suc i)))
+each-rows P (suc n) f h = (h 0 (omega arith), each-rows P n (λ i. f (suc i)) (λ i l. h (suc i) (omega arith)))
+
+pub each-row : {A : Type 0} (P : A → Type 0) (n : ℕ) (f : ℕ → A) → Each P (rows n f) → (i : ℕ) → i < n → P (f i)
+unfolding rows
+each-row P zero f h i l = absurd (lt-irrefl zero (omega arith))
+each-row P (suc n) f h zero l = h .0
+each-row P (suc n) f h (suc i) l = each-row P n (λ k. f (suc k)) (h .1) i (omega arith)
 
 pub each-getD : {A : Type 0} (P : A → Type 0) (xs : List A) (n : ℕ) (d : A) → Each P xs → P d → P (getD xs n d)
 each-getD P [] n d h k = k

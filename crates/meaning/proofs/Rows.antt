@@ -1,7 +1,7 @@
 -- Lists by rule: one element changed, one more, the first of them.
 use mathlib.Core.Path.{_≡_, refl, ap, ap₂}
 use mathlib.Core.Logic.{_≢_}
-use mathlib.Core.List.{List, [], _∷_, _++_}
+use mathlib.Core.List.{List, [], _∷_, _++_, map}
 use Prim.Native.Nat.{ℕ, zero, suc, _≤_, _<_}
 use native.Mathlib.Nat.{lt-irrefl}
 use native.Mathlib.Omega.{arith}
@@ -18,6 +18,11 @@ unfolding rows
 rows-at zero i f d l = absurd (lt-irrefl zero (omega arith))
 rows-at (suc n) zero f d l = refl
 rows-at (suc n) (suc i) f d l = rows-at n i (λ k. f (suc k)) d (omega arith)
+
+pub rows-map : {A B : Type 0} (g : A → B) (n : ℕ) (f : ℕ → A) → map g (rows n f) ≡ rows n (λ i. g (f i))
+unfolding rows
+rows-map g zero f = refl
+rows-map {A} {B} g (suc n) f = ap (λ (ys : List B). g (f 0) ∷ ys) (rows-map g n (λ i. f (suc i)))
 
 pub rows-agree : {A : Type 0} (n : ℕ) (f g : ℕ → A) → ((i : ℕ) → i < n → g i ≡ f i) → rows n g ≡ rows n f
 unfolding rows

@@ -5,13 +5,13 @@ use mathlib.Core.Bool.{Bool, true, false}
 use mathlib.Core.List.{List, [], _∷_}
 use Prim.Native.Nat.{ℕ, zero, suc, _+_, _*_, _≤_, _<_}
 use native.Mathlib.Nat.{lt-irrefl, eq-or-lt-of-le, le-of-suc-le-suc, eq-zero-or-pos}
-use native.Mathlib.Decide.{decLt}
+use native.Mathlib.Decide.{ℕ-discrete, decLt}
 use native.Mathlib.Omega.{arith}
 use lib.Dec.{eqb}
 use lib.ListN.{length, getD, take}
 use lib.Seq.{take-suc}
 use borrow.Author.Tests.{eq-eqb, ne-eqb}
-use Rattle.meaning.specs.Counting.{sumTo, bit, howMany, occurrences}
+use Rattle.meaning.specs.Counting.{sumTo, bit, howMany, occurrences, Each}
 use Rattle.meaning.proofs.Lists.{sum-same, sum-none, occurs-append}
 
 -- ---- sums
@@ -91,6 +91,28 @@ occurs-one n x = omega arith
 pub occurs-first : (n : ℕ) (xs : List ℕ) → 1 ≤ occurrences n (n ∷ xs)
 unfolding occurrences
 occurs-first n xs = omega (arith, bit-same n)
+
+-- what stands in a list occurs in it
+pub occurs-at : (xs : List ℕ) (i : ℕ) → i < length xs → 1 ≤ occurrences (getD xs i 0) xs
+unfolding occurrences
+occurs-at [] i l = absurd (lt-irrefl zero (omega arith))
+occurs-at (x ∷ xs) zero l = omega (arith, bit-same x)
+occurs-at (x ∷ xs) (suc i) l = omega (arith, occurs-at xs i (omega arith))
+
+-- what occurs in a list has what each of it has
+pub each-occurs : (P : ℕ → Type 0) (xs : List ℕ) (n : ℕ) → Each P xs → 1 ≤ occurrences n xs → P n
+unfolding occurrences
+each-occurs P [] n h l = absurd (lt-irrefl zero (omega arith))
+each-occurs P (x ∷ xs) n h l = pick (ℕ-discrete x n) (each-occurs P xs n (h .1))
+  where
+    pick : Dec (x ≡ n) → (1 ≤ occurrences n xs → P n) → P n
+    pick (yes e) rec = rw e at (h .0)
+    pick (no f) rec = rec (omega (arith, bit-other x n f))
+
+pub occurs-each : (P : ℕ → Type 0) (xs : List ℕ) → ((n : ℕ) → 1 ≤ occurrences n xs → P n) → Each P xs
+unfolding occurrences
+occurs-each P [] h = tt
+occurs-each P (x ∷ xs) h = (h x (occurs-first x xs), occurs-each P xs (λ n l. h n (omega arith)))
 
 pub occurs-le : (n : ℕ) (xs : List ℕ) → occurrences n xs ≤ length xs
 unfolding occurrences

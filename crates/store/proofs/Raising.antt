@@ -1,14 +1,17 @@
 -- Laws of raised counts, and of what is needed to raise them.
-use mathlib.Core.Path.{_≡_, refl, _∙_}
+use mathlib.Core.Path.{_≡_, refl, sym, _∙_}
 use mathlib.Core.List.{List, [], _∷_, _++_}
 use Prim.Native.Nat.{ℕ, suc, _+_, _^_, _≤_, _<_}
 use native.Mathlib.Numerals.{add-one}
 use native.Mathlib.Omega.{arith}
 use native.Mathlib.Nat.{lt-of-not-le}
 use native.Mathlib.Decide.{ℕ-discrete, decLt}
-use lib.ListN.{length, take, getD, length-set, length-take, drop-of-length-le}
-use lib.Seq.{slice, slice-cons, length-take-le, getD-take, getD-set-same, getD-set-other, set-out}
+use lib.Dec.{eqb}
+use lib.ListN.{length, take, getD, set, length-set, length-take, drop-of-length-le}
+use lib.Seq.{slice, slice-cons, lt-length-set, length-take-le, getD-take, getD-set-same, getD-set-other, set-out}
 use Rattle.meaning.specs.Limits.{wordWidth}
+use Rattle.meaning.specs.Counting.{bit, occurrences}
+use Rattle.meaning.proofs.Sums.{bit-same, bit-other}
 use Rattle.store.specs.Store.{raise, raises}
 use Rattle.store.specs.Ready.{Room, AllBelow}
 
@@ -54,10 +57,20 @@ room-raises k cs (n ∷ ns) h = room-raises k (raise cs n) ns (room-raise (k + l
 
 -- ---- raises
 
-pub length-raises : (cs ns : List ℕ) → length (raises cs ns) ≡ length cs
+pub raises-length : (cs ns : List ℕ) → length (raises cs ns) ≡ length cs
 unfolding raises raise
-length-raises cs [] = refl
-length-raises cs (n ∷ ns) = length-raises (raise cs n) ns ∙ length-set cs n (getD cs n 0 + 1)
+raises-length cs [] = refl
+raises-length cs (n ∷ ns) = raises-length (raise cs n) ns ∙ length-set cs n (getD cs n 0 + 1)
+
+-- each has one link more for every time that it is listed
+pub raises-at : (cs ns : List ℕ) (n : ℕ) → n < length cs → getD (raises cs ns) n 0 ≡ getD cs n 0 + occurrences n ns
+unfolding raises raise occurrences
+raises-at cs [] n l = omega arith
+raises-at cs (x ∷ ns) n l = raises-at (raise cs x) ns n (lt-length-set cs x (getD cs x 0 + 1) l) ∙ pick (ℕ-discrete n x)
+  where
+    pick : Dec (n ≡ x) → getD (set cs x (getD cs x 0 + 1)) n 0 + occurrences n ns ≡ getD cs n 0 + (bit (eqb x n) + occurrences n ns)
+    pick (yes e) = rw (← e, getD-set-same cs n (getD cs n 0 + 1) 0 l) (omega (arith, bit-same n))
+    pick (no f) = rw (getD-set-other cs x n (getD cs x 0 + 1) 0 f) (omega (arith, bit-other x n (λ e. f (sym e))))
 
 pub raises-append : (cs ms ns : List ℕ) → raises cs (ms ++ ns) ≡ raises (raises cs ms) ns
 unfolding raises

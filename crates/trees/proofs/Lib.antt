@@ -2,8 +2,8 @@
 pub mod Digits
 pub mod Undivided
 pub mod Numbers
+pub mod Agreeing
 pub mod Framing
-pub mod Walking
 pub mod Making
 pub mod Stocking
 pub mod Sources

@@ -1,38 +1,24 @@
 -- A node is taken and written: what is read back, and what is left.
 use mathlib.Core.Path.{_≡_, refl, sym, ap, _∙_}
 use mathlib.Core.Logic.{_≢_}
-use mathlib.Core.List.{List, [], _∷_}
+use mathlib.Core.List.{List}
 use Prim.Native.Nat.{ℕ, zero, suc, _+_, _*_, _≤_, _<_}
 use native.Mathlib.Nat.{lt-irrefl}
-use native.Mathlib.Decide.{decLt, ℕ-discrete}
+use native.Mathlib.Decide.{ℕ-discrete}
 use native.Mathlib.Omega.{arith}
-use lib.ListN.{length, getD, length-set, List·getD-eq-default}
+use lib.ListN.{length, getD, length-set}
 use lib.Seq.{getD-set-same, getD-set-other}
 use Rattle.meaning.specs.Limits.{nodeCells, FREE}
 use Rattle.meaning.specs.Lent.{Nodes, kindOf, usedOf, cellOf}
-use Rattle.cells.specs.Cells.{putCells}
-use Rattle.store.specs.Store.{Store, nodeCount, writeNode, top, make, raise, raises, raised}
-use Rattle.store.specs.Ready.{Sized}
+use Rattle.store.specs.Store.{Store, nodeCount, writeNode, top, make, raised}
 use Rattle.trees.specs.Stock.{waiting, Stock}
 use Rattle.store.specs.Frame.{Same}
+use Rattle.store.proofs.Raising.{raises-length}
+use Rattle.store.proofs.Making.{sized-place, write-same, write-cell}
 use Rattle.trees.specs.Extends.{Extends}
 use Rattle.trees.specs.Sources.{Spare, Tidy}
 use Rattle.trees.specs.Copied.{Written, Copied}
-use Rattle.cells.proofs.CellLaws.{cells-at, put-length, put-same, put-other}
-
--- ---- nodes
-
--- what is in use is a node
-pub use-within : (s : Nodes) (n : ℕ) → kindOf s n ≢ FREE → n < length (s .kinds)
-use-within s n f = pick (decLt n (length (s .kinds)))
-  where
-    pick : Dec (n < length (s .kinds)) → n < length (s .kinds)
-    pick (yes l) = l
-    pick (no g) = absurd (f (List·getD-eq-default (s .kinds) FREE (omega arith)))
-
--- and has its cells
-pub node-fits : (s : Store) (n : ℕ) → Sized s → n < nodeCount s → nodeCells * n + nodeCells ≤ length (s .nodes .cells)
-node-fits s n z l = omega (arith, z .cells)
+use Rattle.cells.proofs.CellLaws.{put-length, put-same}
 
 -- ---- the node that is taken
 
@@ -53,27 +39,21 @@ use-apart s k n z f e = f (ap (kindOf (s .nodes)) e ∙ top-free s k z)
 
 module _ (s : Store) (k kind used : ℕ) (a : List ℕ) (z : Stock s (suc k)) (whole : length a ≡ nodeCells) where
   fits : nodeCells * top s + nodeCells ≤ length (s .nodes .cells)
-  fits = node-fits s (top s) (z .sizes) (top-node s k z)
+  fits = sized-place s (top s) (z .sizes) (top-node s k z) .cells
 
   pub make-writes : Written (make s kind used a .nodes) (top s) kind used a
   unfolding make writeNode
-  make-writes =
-      let back = put-same (s .nodes .cells) (top s) a fits whole in
-      record {
-        kinds = getD-set-same (s .nodes .kinds) (top s) kind FREE (top-node s k z);
-        uses = getD-set-same (s .nodes .used) (top s) used 0 (omega (arith, z .sizes .used, top-node s k z));
-        whole = back;
-        cell = λ i l. sym (cells-at (putCells (s .nodes .cells) (top s) a) (top s) i l) ∙ ap (λ x. getD x i 0) back;
-      }
+  make-writes = record {
+    kinds = getD-set-same (s .nodes .kinds) (top s) kind FREE (top-node s k z);
+    uses = getD-set-same (s .nodes .used) (top s) used 0 (omega (arith, z .sizes .used, top-node s k z));
+    whole = put-same (s .nodes .cells) (top s) a fits whole;
+    cell = write-cell (s .nodes) (top s) kind used a whole fits;
+  }
 
   -- and no other is
   pub make-keeps : (n : ℕ) → n ≢ top s → Same (s .nodes) (make s kind used a .nodes) n
-  unfolding make writeNode
-  make-keeps n f = record {
-    kind = getD-set-other (s .nodes .kinds) (top s) n kind FREE f;
-    used = getD-set-other (s .nodes .used) (top s) n used 0 f;
-    cells = λ i l. put-other (s .nodes .cells) (top s) a fits whole n i f l;
-  }
+  unfolding make
+  make-keeps n f = write-same (s .nodes) (top s) kind used a whole fits n f
 
   pub make-extends : Extends (s .nodes) (make s kind used a .nodes)
   unfolding make writeNode
@@ -136,11 +116,6 @@ module _ (s : Store) (k kind used : ℕ) (a : List ℕ) (z : Stock s (suc k)) (w
           same .cells i m ∙ tidy n i (rw (same .kind) at f) (rw (same .used) at l) m
 
 -- ---- counts
-
-pub raises-length : (counts ns : List ℕ) → length (raises counts ns) ≡ length counts
-unfolding raises raise
-raises-length counts [] = refl
-raises-length counts (n ∷ ns) = raises-length (raise counts n) ns ∙ length-set counts n _
 
 -- counts are no part of the stock
 pub raised-stocks : (s : Store) (k : ℕ) (ns : List ℕ) → Stock s k → Stock (raised s ns) k

@@ -1,5 +1,5 @@
 -- Which nodes a step links, which of them it shares, and what it leaves 0: what counts of links are made of.
-use mathlib.Core.Path.{_≡_, refl, sym, ap, _∙_}
+use mathlib.Core.Path.{_≡_, refl, ap, _∙_}
 use mathlib.Core.Logic.{_≢_, _⊎_, inl, inr}
 use mathlib.Core.List.{List, [], _∷_, _++_}
 use Prim.Native.Nat.{ℕ, zero, suc, _+_, _-_, _≤_, _<_, max}
@@ -9,13 +9,11 @@ use native.Mathlib.Numerals.{add-one}
 use native.Mathlib.Omega.{arith}
 use lib.Dec.{eqb}
 use lib.ListN.{length, getD, set, take, drop, replicate, length-take, drop-of-length-le}
-use lib.Seq.{slice, lt-length-set, take-take, take-set-le, take-set-lt, take-suc-set, set-split, getD-set-same, getD-set-other, length-take-le}
-use borrow.Author.Tests.{eq-eqb, ne-eqb}
+use lib.Seq.{slice, take-take, take-set-le, take-set-lt, take-suc-set, set-split, getD-set-same, getD-set-other, length-take-le}
 use Rattle.meaning.specs.Limits.{nodeCells, FREE}
 use Rattle.meaning.specs.Counting.{bit, occurrences, Each}
 use Rattle.meaning.specs.Lent.{Nodes, kindOf}
 use Rattle.meaning.proofs.Lists.{occurs-append, each-append}
-use Rattle.store.specs.Store.{raise, raises}
 use Rattle.store.specs.Answers.{others}
 use Rattle.paths.specs.Paths.{Source}
 use Rattle.trees.specs.Sources.{Spare}
@@ -52,17 +50,6 @@ slice-used s c b l q = each-slice _ 0 b (c .cells) (λ i m k. q i (omega arith))
 -- a new root shares the old one
 pub root-shared : (root : ℕ) → others (root ∷ replicate (nodeCells - 1) 0) 1 1 ≡ root ∷ []
 root-shared root = refl
-
--- each of the shared has one link more for every time that it is listed
-pub raises-occur : (counts ns : List ℕ) (n : ℕ) → n < length counts → getD (raises counts ns) n 0 ≡ getD counts n 0 + occurrences n ns
-unfolding raises raise occurrences
-raises-occur counts [] n l = omega arith
-raises-occur counts (x ∷ ns) n l =
-    raises-occur (set counts x (getD counts x 0 + 1)) ns n (lt-length-set counts x (getD counts x 0 + 1) l) ∙ pick (ℕ-discrete x n)
-  where
-    pick : Dec (x ≡ n) → getD (set counts x (getD counts x 0 + 1)) n 0 + occurrences n ns ≡ getD counts n 0 + (bit (eqb x n) + occurrences n ns)
-    pick (yes e) = rw (e, getD-set-same counts n (getD counts n 0 + 1) 0 l, eq-eqb n n refl) (omega arith)
-    pick (no f) = rw (getD-set-other counts x n (getD counts x 0 + 1) 0 (λ e. f (sym e)), ne-eqb x n f) (omega arith)
 
 -- ---- what is linked
 

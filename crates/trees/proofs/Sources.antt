@@ -15,6 +15,7 @@ use Rattle.meaning.specs.Trees.{Shaped}
 use Rattle.meaning.specs.WellFormed.{LegalBits}
 use Rattle.meaning.proofs.Lists.{replicate-at}
 use Rattle.meaning.proofs.Reaching.{shaped-used}
+use Rattle.meaning.proofs.Nodes.{used-inside}
 use Rattle.cells.specs.Cells.{cellsOf}
 use Rattle.store.specs.Store.{Store}
 use Rattle.paths.specs.Paths.{Source, source}
@@ -25,10 +26,10 @@ use Rattle.trees.specs.Elements.{inside}
 use Rattle.trees.proofs.Digits.{inside-splits, inside-below}
 use Rattle.trees.proofs.Numbers.{cut-used}
 use Rattle.cells.proofs.CellLaws.{cells-at, cells-length}
-use Rattle.trees.proofs.Making.{use-within, node-fits}
+use Rattle.store.proofs.Making.{sized-place}
 
 use-whole : (s : Store) (n : ℕ) → Sized s → kindOf (s .nodes) n ≢ FREE → length (cellsOf (s .nodes .cells) n) ≡ nodeCells
-use-whole s n z f = cells-length (s .nodes .cells) n (node-fits s n z (use-within (s .nodes) n f))
+use-whole s n z f = cells-length (s .nodes .cells) n (sized-place s n z (used-inside (s .nodes) n f) .cells)
 
 -- spare cells of a node that stands, and of none
 stands-spare : (s : Nodes) (n : ℕ) → kindOf s n ≢ FREE → Tidy s → Spare (cellsOf (s .cells) n) (usedOf s n)

@@ -19,7 +19,7 @@ use Rattle.cells.specs.Cells.{cellsOf}
 use Rattle.meaning.specs.Links.{cellLinks, Reached, byRoot, byCell}
 use Rattle.meaning.specs.WellFormed.{Live}
 use Rattle.meaning.proofs.Lists.{many-le, replicate-at}
-use Rattle.meaning.proofs.Sums.{occurs-first}
+use Rattle.meaning.proofs.Sums.{occurs-first, each-occurs}
 use Rattle.meaning.proofs.Reaching.{shaped-used}
 use Rattle.store.specs.Store.{Store, raises}
 use Rattle.ledger.specs.Kept.{Kept}
@@ -35,7 +35,7 @@ use Rattle.trees.specs.Elements.{inside, undivided}
 use Rattle.trees.proofs.Climbs.{climb-copies}
 use Rattle.trees.proofs.Climbing.{assoc-climbs, grow-climbs, empty-climbs, drop-climbs}
 use Rattle.trees.proofs.Digits.{inside-is}
-use Rattle.upkeep.proofs.Climbs.{kept-stocks, each-occurs}
+use Rattle.upkeep.proofs.Climbs.{kept-stocks}
 use Rattle.upkeep.proofs.Within.{Within, leaf-within, within-reaches}
 use Rattle.upkeep.proofs.Shares.{at-first, none-raised, source-within, assoc-within, grow-within, drop-within}
 

@@ -2,17 +2,13 @@
 use mathlib.Core.Path.{_≡_, _∙_}
 use mathlib.Core.Logic.{_≢_}
 use mathlib.Core.List.{List, [], _∷_}
-use Prim.Native.Nat.{ℕ, zero, _+_, _≤_, _<_, max}
-use native.Mathlib.Nat.{lt-irrefl}
-use native.Mathlib.Decide.{ℕ-discrete}
+use Prim.Native.Nat.{ℕ, _+_, _≤_, _<_, max}
 use native.Mathlib.Omega.{arith}
 use lib.ListN.{set, length-set}
 use lib.Seq.{slice}
-use borrow.Author.Tests.{ne-eqb}
 use Rattle.meaning.specs.Limits.{nodeCells, FREE}
-use Rattle.meaning.specs.Counting.{occurrences, Each}
 use Rattle.meaning.specs.Lent.{Nodes, kindOf, usedOf, cellOf}
-use Rattle.meaning.proofs.Sums.{occurs-none, occurs-one}
+use Rattle.meaning.proofs.Sums.{occurs-none, occurs-one, each-occurs}
 use Rattle.store.specs.Store.{Store}
 use Rattle.store.specs.Answers.{others}
 use Rattle.ledger.specs.Kept.{Kept}
@@ -31,16 +27,6 @@ use Rattle.trees.proofs.Sharing.{put-occurs, cut-occurs, put-spare, cut-spare, 
 -- the nodes that are free are there to be taken
 pub kept-stocks : {s : Store} {roots : List ℕ} → Kept s roots → (k : ℕ) → k ≤ s .free → Stock s k
 kept-stocks {s} k j l = stock-lessens s (s .free) j l (order-stocks s (k .sized) (k .room) (λ n. k .ordered n ∙ omega (arith, occurs-none n)))
-
--- what occurs in a list has what each of it has
-pub each-occurs : (P : ℕ → Type 0) (xs : List ℕ) (n : ℕ) → Each P xs → 1 ≤ occurrences n xs → P n
-unfolding occurrences
-each-occurs P [] n h l = absurd (lt-irrefl zero (omega arith))
-each-occurs P (x ∷ xs) n h l = pick (ℕ-discrete x n) (each-occurs P xs n (h .1))
-  where
-    pick : Dec (x ≡ n) → (1 ≤ occurrences n xs → P n) → P n
-    pick (yes e) rec = rw e at (h .0)
-    pick (no f) rec = rec (omega (arith, rw (ne-eqb x n f) at l))
 
 -- ---- what is written
 

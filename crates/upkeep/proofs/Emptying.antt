@@ -2,26 +2,24 @@
 use mathlib.Core.Path.{_≡_, refl, _∙_}
 use mathlib.Core.Logic.{inl}
 use mathlib.Core.List.{List, _∷_, _++_, map}
-use Prim.Native.Nat.{ℕ, _+_, _<_}
+use Prim.Native.Nat.{ℕ, _<_}
 use native.Mathlib.Omega.{arith}
 use lib.ListN.{length, getD, set, length-set}
 use Rattle.meaning.specs.Counting.{occurrences}
 use Rattle.meaning.specs.Lent.{VersionRecord, emptyRecord, WalkSlices, WalkRecord, walkRecords}
 use Rattle.meaning.specs.Links.{liveRoots, roots}
 use Rattle.meaning.specs.WellFormed.{LegalVersion}
-use Rattle.meaning.proofs.Lists.{occurs-append}
+use Rattle.meaning.proofs.Lists.{each-set, occurs-append}
 use Rattle.meaning.proofs.Sums.{occurs-cons}
 use Rattle.store.specs.Store.{Store}
 use Rattle.sweep.specs.Sweep.{release}
 use Rattle.ledger.specs.Kept.{Kept}
-use Rattle.ledger.specs.Frame.{Remains}
 use Rattle.ledger.proofs.Raising.{roots-permute}
-use Rattle.ledger.proofs.Bounds.{child-used}
-use Rattle.ledger.proofs.Releasing.{release-keeps, release-remains}
+use Rattle.ledger.proofs.Releasing.{release-keeps, release-remains, release-reached}
+use Rattle.trees.specs.Agreeing.{RecordsStay}
+use Rattle.trees.proofs.Agreeing.{records-stay, stays-legal}
 use Rattle.upkeep.specs.Running.{stateOf, Running}
 use Rattle.upkeep.proofs.Roots.{roots-clear}
-use Rattle.upkeep.proofs.Filling.{walks-alike, each-put}
-use Rattle.upkeep.proofs.Back.{versions-back, walks-back}
 
 module _ (s : Store) (vs : List VersionRecord) (ws : WalkSlices) (r : Running s vs ws) (i : ℕ) (inside : i < length vs)
     (live : getD vs i emptyRecord .live ≡ 1) where
@@ -32,35 +30,30 @@ module _ (s : Store) (vs : List VersionRecord) (ws : WalkSlices) (r : Running s 
   after = release s root
 
   emptied-links : (n : ℕ) → occurrences n (roots (stateOf s vs ws)) ≡ occurrences n (root ∷ roots (stateOf after (set vs i emptyRecord) ws))
-  unfolding roots
+  unfolding roots walkRecords
   emptied-links n =
       let walked = liveRoots (map (λ (w : WalkRecord). w .version) (walkRecords (stateOf s vs ws))) in
       let rest = liveRoots (set vs i emptyRecord) in
-      rw (walks-alike (stateOf after (set vs i emptyRecord) ws) (stateOf s vs ws) refl)
-      (omega (arith, occurs-append n (liveRoots vs) walked, occurs-append n rest walked, occurs-cons n root (rest ++ walked), roots-clear n vs i inside live))
+      omega (arith, occurs-append n (liveRoots vs) walked, occurs-append n rest walked, occurs-cons n root (rest ++ walked), roots-clear n vs i inside live)
+
+  -- before: the slot's root first
+  slot-first : Kept s (root ∷ roots (stateOf after (set vs i emptyRecord) ws))
+  slot-first = roots-permute _ (r .kept) emptied-links
 
   emptied-kept : Kept after (roots (stateOf after (set vs i emptyRecord) ws))
-  emptied-kept = release-keeps (roots-permute _ (r .kept) emptied-links)
+  emptied-kept = release-keeps slot-first
 
-  -- the links from slots, and those from walks
-  abbrev slotLinks : List ℕ
-  slotLinks = liveRoots (set vs i emptyRecord)
-
-  abbrev walkLinks : List ℕ
-  walkLinks = liveRoots (map (λ (w : WalkRecord). w .version) (walkRecords (stateOf s vs ws)))
-
-  all-links : (n : ℕ) → occurrences n (roots (stateOf after (set vs i emptyRecord) ws)) ≡ occurrences n slotLinks + occurrences n walkLinks
-  unfolding roots
-  all-links n = rw (walks-alike (stateOf after (set vs i emptyRecord) ws) (stateOf s vs ws) refl) (occurs-append n slotLinks walkLinks)
-
-  remains : Remains s after
-  remains = release-remains s root
+  pub emptied-stays : RecordsStay (s .nodes) (release s (getD vs i emptyRecord .root) .nodes) (stateOf (release s (getD vs i emptyRecord .root)) (set vs i emptyRecord) ws)
+  unfolding walkRecords
+  emptied-stays =
+      records-stay (s .nodes) (after .nodes) (stateOf after (set vs i emptyRecord) ws) (λ n q. release-reached slot-first q .1)
+      (each-set (LegalVersion (s .nodes)) vs i emptyRecord (r .versions) (inl refl)) (r .walks)
 
   pub emptied-runs : Running after (set vs i emptyRecord) ws
   emptied-runs = record {
     fits = record {
-      least = rw (remains .size) (r .fits .least);
-      most = rw (remains .size) (r .fits .most);
+      least = rw (release-remains s root .size) (r .fits .least);
+      most = rw (release-remains s root .size) (r .fits .most);
       used = emptied-kept .sized .used;
       cells = emptied-kept .sized .cells;
       counts = emptied-kept .sized .counts;
@@ -70,13 +63,7 @@ module _ (s : Store) (vs : List VersionRecord) (ws : WalkSlices) (r : Running s 
       walkNodes = r .fits .walkNodes;
       walkIndices = r .fits .walkIndices;
     };
-    versions =
-        versions-back (s .nodes) (after .nodes) (remains .size) (remains .same) (child-used emptied-kept) (set vs i emptyRecord)
-        (λ n l. emptied-kept .rooted n (omega (arith, all-links n)))
-        (each-put (LegalVersion (s .nodes)) vs i emptyRecord (r .versions) (inl refl));
-    walks =
-        rw (walks-alike (stateOf after (set vs i emptyRecord) ws) (stateOf s vs ws) refl)
-        (walks-back (s .nodes) (after .nodes) (remains .size) (remains .same) (child-used emptied-kept) (walkRecords (stateOf s vs ws))
-        (λ n l. emptied-kept .rooted n (omega (arith, all-links n))) (r .walks));
+    versions = stays-legal (s .nodes) (after .nodes) (stateOf after (set vs i emptyRecord) ws) emptied-stays .0;
+    walks = stays-legal (s .nodes) (after .nodes) (stateOf after (set vs i emptyRecord) ws) emptied-stays .1;
     kept = emptied-kept;
   }

@@ -10,10 +10,12 @@ use lib.Seq.{slice, getD-set-same, getD-set-other}
 use Rattle.meaning.specs.Limits.{LEAF, BRANCH, FREE}
 use Rattle.meaning.specs.Counting.{occurrences, Each}
 use Rattle.meaning.specs.Lent.{Nodes, kindOf}
+use Rattle.meaning.proofs.Sums.{each-occurs}
+use Rattle.meaning.proofs.Nodes.{used-inside}
 use Rattle.store.specs.Store.{Store, top, writeNode, make, raises, raised}
 use Rattle.store.specs.Answers.{others}
+use Rattle.store.proofs.Raising.{raises-at, raises-length}
 use Rattle.ledger.specs.Kept.{Kept, countIn}
-use Rattle.ledger.proofs.Facts.{used-inside}
 use Rattle.ledger.proofs.Taking.{top-inside}
 use Rattle.paths.specs.Paths.{Made, leafWith, branchWith, leafCut, branchCut}
 use Rattle.paths.specs.Edits.{Edit, shareEdit}
@@ -21,9 +23,8 @@ use Rattle.trees.specs.Climbs.{Climb, leafPut, branchPut, leafLess, branchLess}
 use Rattle.trees.specs.Copied.{Copied}
 use Rattle.trees.specs.Edited.{Rooted, made, shared}
 use Rattle.trees.proofs.Climbs.{climb-copies}
-use Rattle.trees.proofs.Making.{raises-length}
-use Rattle.trees.proofs.Sharing.{raises-occur, others-used}
-use Rattle.upkeep.proofs.Climbs.{kept-stocks, each-occurs, climb-keeps}
+use Rattle.trees.proofs.Sharing.{others-used}
+use Rattle.upkeep.proofs.Climbs.{kept-stocks, climb-keeps}
 
 -- ---- one node made, of a store whose counts were raised for some nodes in use
 
@@ -73,7 +74,7 @@ climb-once {s} (branchPut {taken = taken} {r = r} c b climb p l linked) k some n
     made-once (r .store) BRANCH _ _ (others (c .cells) (c .used) b) (top-counted below (omega (arith, copied .free))) n
     (λ g h.
     let inside : n < length (r .store .counts) = omega (arith, used-inside (r .store .nodes) n h, below .sized .counts) in
-    raises-occur (r .store .counts) (others (c .cells) (c .used) b) n inside
+    raises-at (r .store .counts) (others (c .cells) (c .used) b) n inside
     ∙ omega (arith, climb-once climb k (omega arith) n e h, unshared (s .nodes) (others (c .cells) (c .used) b) n (others-used (s .nodes) c b l linked) e))
     f
 climb-once {s} (leafLess c b p l) k some n e f = made-once s LEAF _ _ [] (top-counted k some) n (λ g h. absurd (h e)) f

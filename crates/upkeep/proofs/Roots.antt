@@ -14,10 +14,10 @@ use Rattle.meaning.specs.Lent.{VersionRecord, emptyRecord}
 use Rattle.meaning.specs.Links.{liveRoots}
 
 -- a record's own link
-unfoldable pub own : (n : ℕ) → VersionRecord → ℕ
+own : (n : ℕ) → VersionRecord → ℕ
 own n v = occurrences n (liveRoots (v ∷ []))
 
-pub own-live : (n : ℕ) (v : VersionRecord) → v .live ≡ 1 → own n v ≡ bit (eqb (v .root) n)
+own-live : (n : ℕ) (v : VersionRecord) → v .live ≡ 1 → own n v ≡ bit (eqb (v .root) n)
 unfolding own liveRoots occurrences
 own-live n v e = rw e (omega arith)
 
@@ -26,7 +26,7 @@ unfolding own liveRoots occurrences
 own-empty n v f = rw (ne-eqb (v .live) 1 f)
 
 -- a list's links are its records' own
-pub first-own : (n : ℕ) (v : VersionRecord) (vs : List VersionRecord) → occurrences n (liveRoots (v ∷ vs)) ≡ own n v + occurrences n (liveRoots vs)
+first-own : (n : ℕ) (v : VersionRecord) (vs : List VersionRecord) → occurrences n (liveRoots (v ∷ vs)) ≡ own n v + occurrences n (liveRoots vs)
 unfolding own liveRoots occurrences
 first-own n v vs = pick (eqb (v .live) 1)
   where

@@ -18,10 +18,11 @@ use Rattle.meaning.specs.Shape.{degree, bucket}
 use Rattle.meaning.specs.Trees.{Shaped}
 use Rattle.meaning.specs.Links.{cellLinks}
 use Rattle.meaning.specs.WellFormed.{LegalBits}
+use Rattle.meaning.proofs.Nodes.{child-linked, free-linkless}
+use Rattle.meaning.proofs.Sums.{each-occurs}
 use Rattle.store.specs.Store.{Store, raises}
 use Rattle.store.specs.Answers.{others}
 use Rattle.ledger.specs.Kept.{Kept}
-use Rattle.ledger.proofs.Links.{free-linkless, child-linked}
 use Rattle.paths.specs.Paths.{Made, Source, source, leafWith, branchWith, assoc, grow, leafCut, branchCut, dropLast}
 use Rattle.trees.specs.Sources.{Found, BranchSource}
 use Rattle.trees.specs.Climbs.{Step, Linked, Climb}
@@ -35,7 +36,7 @@ use Rattle.trees.proofs.Climbs.{climb-copies}
 use Rattle.trees.proofs.Climbing.{leaf-step, branch-step, branch-linked, assoc-climbs, root-spare, drop-climbs}
 use Rattle.trees.proofs.Undivided.{divides-false, undivided-step, undivided-leaf}
 use Rattle.trees.proofs.Framing.{use-stays}
-use Rattle.upkeep.proofs.Climbs.{kept-stocks, each-occurs, put-filled, cut-filled, climb-keeps}
+use Rattle.upkeep.proofs.Climbs.{kept-stocks, put-filled, cut-filled, climb-keeps}
 use Rattle.upkeep.proofs.Within.{Within, leaf-within, branch-within}
 
 -- P: a set of nodes that is closed under the links of s

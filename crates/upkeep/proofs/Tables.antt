@@ -1,30 +1,27 @@
 -- The plain table of a state in which one slot or one walk has changed.
-use mathlib.Core.Path.{_≡_, sym, ap, ap₂, _∙_}
-use mathlib.Core.Logic.{_≢_, inl, inr}
+use mathlib.Core.Path.{_≡_, refl, sym, ap, ap₂, _∙_}
+use mathlib.Core.Logic.{_≢_, inl}
 use mathlib.Core.List.{List}
 use Prim.Native.Nat.{ℕ, _+_, _*_, _<_}
 use native.Mathlib.Omega.{arith}
 use lib.ListN.{set}
 use Rattle.meaning.specs.Limits.{parties, partySlots, partyWalks}
-use Rattle.meaning.specs.Lent.{Nodes, VersionRecord, WalkRecord, Lent, versionAt, walkAt}
-use Rattle.meaning.specs.WellFormed.{LegalVersion, LegalWalk}
+use Rattle.meaning.specs.Lent.{Nodes, emptyRecord, Lent, versionAt, walkRecord, walkAt, walkRecords}
 use Rattle.meaning.specs.Table.{Slot, Walk, Party, freshParty, partyAt, putSlot, putWalk}
 use Rattle.meaning.specs.Stands.{slotOf, walkOf, partyOf, tableOf}
+use Rattle.meaning.proofs.Lists.{each-getD, each-row}
 use Rattle.meaning.proofs.Rows.{rows-at, rows-agree, rows-set}
-use Rattle.trees.specs.Extends.{Extends}
-use Rattle.trees.proofs.Framing.{contents-stay}
+use Rattle.trees.specs.Agreeing.{SlotStays, WalkStays, RecordsStay}
 
 -- ---- one record
 
-pub slot-stays : (s t : Nodes) (v : VersionRecord) → Extends s t → LegalVersion s v → slotOf t v ≡ slotOf s v
+pub slot-stays : (s t : Nodes) (x : Lent) → RecordsStay s t x → (p n : ℕ) → slotOf t (versionAt x p n) ≡ slotOf s (versionAt x p n)
 unfolding slotOf
-slot-stays s t v e (inl d) = rw d
-slot-stays s t v e (inr l) = rw (contents-stay s t v (l .bits) e (l .shape))
+slot-stays s t x h p n = each-getD (SlotStays s t) (x .versions) (partySlots * p + n) emptyRecord (h .0) (inl refl, refl) .1
 
-pub walk-stays : (s t : Nodes) (w : WalkRecord) → Extends s t → LegalWalk s w → walkOf t w ≡ walkOf s w
-unfolding walkOf
-walk-stays s t w e (inl d) = rw d
-walk-stays s t w e (inr o) = rw (contents-stay s t (w .version) (o .version .bits) e (o .version .shape))
+pub walk-stays : (s t : Nodes) (x : Lent) → RecordsStay s t x → (p n : ℕ) → p < parties → n < partyWalks → walkOf t (walkAt x p n) ≡ walkOf s (walkAt x p n)
+unfolding walkRecords
+walk-stays s t x h p n lp ln = each-row (WalkStays s t) (parties * partyWalks) (walkRecord (x .walks)) (h .1) (partyWalks * p + n) (omega arith) .1
 
 -- ---- one place of the table
 

@@ -11,14 +11,15 @@ use Rattle.meaning.specs.Limits.{LEAF, BRANCH, FREE}
 use Rattle.meaning.specs.Counting.{occurrences}
 use Rattle.meaning.specs.Lent.{Nodes, kindOf}
 use Rattle.meaning.specs.Links.{cellLinks, Reached, byRoot, byCell}
+use Rattle.meaning.proofs.Sums.{each-occurs}
+use Rattle.meaning.proofs.Nodes.{other-linkless}
 use Rattle.store.specs.Store.{Store, top, make, raised}
 use Rattle.ledger.specs.Kept.{Kept}
 use Rattle.ledger.specs.Frame.{Filled}
-use Rattle.ledger.proofs.Links.{other-linkless, links-same}
+use Rattle.ledger.proofs.Links.{links-same}
 use Rattle.ledger.proofs.Facts.{children-le}
 use Rattle.ledger.proofs.Raising.{raised-keeps}
 use Rattle.ledger.proofs.Making.{make-same, make-kind, branch-links}
-use Rattle.upkeep.proofs.Climbs.{each-occurs}
 
 -- what a fresh node links is fresh too, or in P
 abbrev pub Within : (P : ℕ → Type 0) → (s t : Nodes) → Type 0

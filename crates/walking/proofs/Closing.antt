@@ -1,35 +1,31 @@
 -- A walk closed: the root of its version loses a link, what nothing reaches any longer is given back, and every slot and every other walk stays as it was.
-use mathlib.Core.Path.{_≡_, sym, ap, _∙_}
-use mathlib.Core.Logic.{_≢_, inl}
-use mathlib.Core.List.{List, _∷_, map}
-use Prim.Native.Nat.{ℕ, _+_, _*_, _<_, _≤_}
+use mathlib.Core.Path.{_≡_, ap, _∙_}
+use mathlib.Core.Logic.{inl}
+use mathlib.Core.List.{List, _∷_}
+use Prim.Native.Nat.{ℕ, _+_, _*_, _<_}
 use native.Mathlib.Omega.{arith}
 use lib.ListN.{getD, set}
-use Rattle.meaning.specs.Limits.{FREE, parties, partySlots, partyWalks}
+use Rattle.meaning.specs.Limits.{parties, partyWalks}
 use Rattle.meaning.specs.Counting.{occurrences}
-use Rattle.meaning.specs.Lent.{kindOf, VersionRecord, emptyRecord, WalkSlices, WalkRecord, walkRecord, walkRecords}
+use Rattle.meaning.specs.Lent.{VersionRecord, emptyRecord, WalkSlices, WalkRecord, walkRecord, walkRecords}
 use Rattle.meaning.specs.Links.{liveRoots, roots}
 use Rattle.meaning.specs.WellFormed.{LegalWalk}
 use Rattle.meaning.specs.Table.{closed, partyAt, putWalk}
 use Rattle.meaning.specs.Stands.{walkOf, tableOf}
-use Rattle.meaning.proofs.Lists.{occurs-append}
+use Rattle.meaning.proofs.Lists.{each-set}
 use Rattle.meaning.proofs.Sums.{occurs-cons}
 use Rattle.store.specs.Store.{Store}
 use Rattle.sweep.specs.Sweep.{release}
 use Rattle.ledger.specs.Kept.{Kept}
-use Rattle.ledger.specs.Frame.{Remains}
 use Rattle.ledger.proofs.Raising.{roots-permute}
-use Rattle.ledger.proofs.Bounds.{child-used}
-use Rattle.ledger.proofs.Releasing.{release-keeps, release-remains}
+use Rattle.ledger.proofs.Releasing.{release-keeps, release-remains, release-reached}
 use Rattle.walk.specs.Walk as walk
 use Rattle.walk_laws.specs.Took.{Closed}
 use Rattle.walk_laws.proofs.Opening.{close-clears}
-use Rattle.trees.specs.Extends.{Extends}
+use Rattle.trees.specs.Agreeing.{RecordsStay}
+use Rattle.trees.proofs.Agreeing.{records-stay, stays-legal}
 use Rattle.upkeep.specs.Running.{stateOf, Running}
 use Rattle.upkeep.proofs.Roots.{roots-clear}
-use Rattle.upkeep.proofs.Filling.{each-put}
-use Rattle.upkeep.proofs.Back.{back-extends, versions-back, walks-back}
-use Rattle.upkeep.proofs.Stands.{legal-at, legal-walk}
 use Rattle.upkeep.proofs.Tables.{slot-stays, walk-stays, SlotsAgree, WalksAgree, nowhere, table-walk}
 use Rattle.walking.specs.Walked.{walked}
 use Rattle.walking.proofs.Records.{walked-length, walked-at, root-count, walked-set, records-set, slices-fit, sizes-again}
@@ -57,26 +53,23 @@ module _ (s : Store) (vs : List VersionRecord) (ws : WalkSlices) (r : Running s 
       let clear = roots-clear n (walked ws) i (omega (arith, walked-length ws)) (rw at live) in
       omega (arith, occurs-cons n root (roots (stateOf after vs then)), root-count s vs ws n, root-count after vs then n, ap (λ us. occurrences n (liveRoots us)) closed-walked, rw at at clear)
 
+  -- before: the walk's root first
+  walk-first : Kept s (root ∷ roots (stateOf after vs then))
+  walk-first = roots-permute _ (r .kept) closed-links
+
   closed-kept : Kept after (roots (stateOf after vs then))
-  closed-kept = release-keeps (roots-permute _ (r .kept) closed-links)
+  closed-kept = release-keeps walk-first
 
-  remains : Remains s after
-  remains = release-remains s root
-
-  slot-used : (n : ℕ) → 1 ≤ occurrences n (liveRoots vs) → kindOf (after .nodes) n ≢ FREE
-  slot-used n l = closed-kept .rooted n (omega (arith, root-count after vs then n))
-
-  walk-used : (n : ℕ) → 1 ≤ occurrences n (liveRoots (map (λ (w : WalkRecord). w .version) (walkRecords (stateOf after vs then)))) → kindOf (after .nodes) n ≢ FREE
-  unfolding roots
-  walk-used n l = closed-kept .rooted n (omega (arith, occurs-append n (liveRoots vs) (liveRoots (map (λ (w : WalkRecord). w .version) (walkRecords (stateOf after vs then))))))
+  pub closed-stays : RecordsStay (s .nodes) (release s (walkRecord ws i .version .root) .nodes) (stateOf (release s (walkRecord ws i .version .root)) vs (walk.closed ws i))
+  closed-stays =
+      records-stay (s .nodes) (after .nodes) (stateOf after vs then) (λ n q. release-reached walk-first q .1) (r .versions)
+      (rw (records-set ws then i inside (promise .others) s after vs vs) (each-set (LegalWalk (s .nodes)) (walkRecords (stateOf s vs ws)) i _ (r .walks) (inl (promise .record-is))))
 
   pub closed-runs : Running after vs then
   closed-runs = record {
-    fits = sizes-again r (remains .size) closed-kept (promise .sizes);
-    versions = versions-back (s .nodes) (after .nodes) (remains .size) (remains .same) (child-used closed-kept) vs slot-used (r .versions);
-    walks =
-        walks-back (s .nodes) (after .nodes) (remains .size) (remains .same) (child-used closed-kept) (walkRecords (stateOf after vs then)) walk-used
-        (rw (records-set ws then i inside (promise .others) s after vs vs) (each-put (LegalWalk (s .nodes)) (walkRecords (stateOf s vs ws)) i _ (r .walks) (inl (promise .record-is))));
+    fits = sizes-again r (release-remains s root .size) closed-kept (promise .sizes);
+    versions = stays-legal (s .nodes) (after .nodes) (stateOf after vs then) closed-stays .0;
+    walks = stays-legal (s .nodes) (after .nodes) (stateOf after vs then) closed-stays .1;
     kept = closed-kept;
   }
 
@@ -91,19 +84,15 @@ module _ (s : Store) (vs : List VersionRecord) (ws : WalkSlices) (r : Running s 
   clears : Closed ws (partyWalks * p + n) left
   clears = close-clears ws (partyWalks * p + n) (slices-fit r) (omega arith)
 
-  runs : Running gone vs left
-  runs = closed-runs s vs ws r (partyWalks * p + n) (omega arith) live
-
-  extended : Extends (gone .nodes) (s .nodes)
-  extended = let m = release-remains s _ in back-extends (s .nodes) (gone .nodes) (m .size) (m .same) (child-used (runs .kept))
+  stays : RecordsStay (s .nodes) (gone .nodes) (stateOf gone vs left)
+  stays = closed-stays s vs ws r (partyWalks * p + n) (omega arith) live
 
   slots-agree : SlotsAgree (stateOf s vs ws) (stateOf gone vs left) nowhere
-  slots-agree q m lq lm f = sym (slot-stays (gone .nodes) (s .nodes) _ extended (legal-at gone vs left runs (partySlots * q + m)))
+  slots-agree q m lq lm f = slot-stays (s .nodes) (gone .nodes) (stateOf gone vs left) stays q m
 
   walks-agree : WalksAgree (stateOf s vs ws) (stateOf gone vs left) (partyWalks * p + n)
   walks-agree q m lq lm f =
-      sym (walk-stays (gone .nodes) (s .nodes) _ extended (legal-walk gone vs left runs (partyWalks * q + m) (omega arith)))
-      ∙ ap (walkOf (s .nodes)) (clears .others (partyWalks * q + m) f)
+      walk-stays (s .nodes) (gone .nodes) (stateOf gone vs left) stays q m lq lm ∙ ap (walkOf (s .nodes)) (clears .others (partyWalks * q + m) f)
 
   shut : walkOf (gone .nodes) (walkRecord left (partyWalks * p + n)) ≡ closed
   unfolding walkOf

@@ -15,6 +15,7 @@ use Rattle.meaning.specs.WellFormed.{Live, LegalWalk}
 use Rattle.meaning.specs.Table.{taking, partyAt, putWalk}
 use Rattle.meaning.specs.Stands.{walkOf, tableOf}
 use Rattle.meaning.proofs.Reaching.{shaped-used}
+use Rattle.meaning.proofs.Lists.{each-set}
 use Rattle.meaning.proofs.Sums.{occurs-cons}
 use Rattle.store.specs.Store.{Store, raised}
 use Rattle.ledger.specs.Kept.{Kept}
@@ -26,7 +27,6 @@ use Rattle.walk_laws.proofs.Stored.{stored-version}
 use Rattle.walk_laws.proofs.Opening.{open-takes}
 use Rattle.upkeep.specs.Running.{stateOf, Running}
 use Rattle.upkeep.proofs.Roots.{roots-fill}
-use Rattle.upkeep.proofs.Filling.{each-put}
 use Rattle.upkeep.proofs.Tables.{table-walk}
 use Rattle.walking.specs.Walked.{walked}
 use Rattle.walking.proofs.Records.{walked-length, walked-at, root-count, walked-set, records-set, slices-fit, sizes-again}
@@ -62,7 +62,7 @@ module _ (s : Store) (vs : List VersionRecord) (ws : WalkSlices) (r : Running s 
   opened-runs = record {
     fits = sizes-again r refl opened-kept (promise .sizes);
     versions = r .versions;
-    walks = rw (records-set ws then i inside (promise .others) s after vs vs) (each-put (LegalWalk (s .nodes)) (walkRecords (stateOf s vs ws)) i _ (r .walks) (inr (promise .legal)));
+    walks = rw (records-set ws then i inside (promise .others) s after vs vs) (each-set (LegalWalk (s .nodes)) (walkRecords (stateOf s vs ws)) i _ (r .walks) (inr (promise .legal)));
     kept = opened-kept;
   }
 

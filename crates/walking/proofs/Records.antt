@@ -1,26 +1,21 @@
 -- The walk records of a state in which one walk has changed, and the links from them.
 use mathlib.Core.Path.{_≡_, refl, ap}
 use mathlib.Core.Logic.{_≢_}
-use mathlib.Core.List.{List, _∷_, map}
-use Prim.Native.Nat.{ℕ, zero, suc, _+_, _<_}
+use mathlib.Core.List.{List}
+use Prim.Native.Nat.{ℕ, _+_, _<_}
 use lib.ListN.{length, getD, set}
-use Rattle.meaning.specs.Counting.{occurrences, rows}
+use Rattle.meaning.specs.Counting.{occurrences}
 use Rattle.meaning.specs.Lent.{VersionRecord, emptyRecord, WalkSlices, WalkRecord, walkRecord, walkRecords}
 use Rattle.meaning.specs.Links.{liveRoots, roots}
 use Rattle.meaning.specs.WellFormed.{SizesFit}
 use Rattle.meaning.proofs.Lists.{occurs-append}
-use Rattle.meaning.proofs.Rows.{rows-length, rows-at, rows-set}
+use Rattle.meaning.proofs.Rows.{rows-length, rows-at, rows-set, rows-map}
 use Rattle.store.specs.Store.{Store, nodeCount}
 use Rattle.ledger.specs.Kept.{Kept}
 use Rattle.walk.specs.Walk.{walks}
 use Rattle.walk_laws.specs.Took.{SlicesFit}
 use Rattle.upkeep.specs.Running.{stateOf, Running}
 use Rattle.walking.specs.Walked.{walked}
-
-map-rows : {A B : Type 0} (g : A → B) (n : ℕ) (f : ℕ → A) → map g (rows n f) ≡ rows n (λ i. g (f i))
-unfolding rows
-map-rows g zero f = refl
-map-rows {A} {B} g (suc n) f = ap (λ (ys : List B). g (f 0) ∷ ys) (map-rows g n (λ i. f (suc i)))
 
 -- ---- the links
 
@@ -36,7 +31,7 @@ walked-at ws i l = rows-at walks i (λ n. walkRecord ws n .version) emptyRecord 
 pub root-count : (s : Store) (vs : List VersionRecord) (ws : WalkSlices) (n : ℕ)
     → occurrences n (roots (stateOf s vs ws)) ≡ occurrences n (liveRoots vs) + occurrences n (liveRoots (walked ws))
 unfolding roots walkRecords walked
-root-count s vs ws n = rw (map-rows (λ (w : WalkRecord). w .version) walks (walkRecord ws)) (occurs-append n (liveRoots vs) _)
+root-count s vs ws n = rw (rows-map (λ (w : WalkRecord). w .version) walks (walkRecord ws)) (occurs-append n (liveRoots vs) _)
 
 -- ---- one walk changes
 

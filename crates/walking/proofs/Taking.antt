@@ -13,13 +13,13 @@ use Rattle.meaning.specs.Links.{liveRoots, roots}
 use Rattle.meaning.specs.WellFormed.{LegalWalk}
 use Rattle.meaning.specs.Table.{taking, partyAt, putWalk}
 use Rattle.meaning.specs.Stands.{walkOf, tableOf}
+use Rattle.meaning.proofs.Lists.{each-set}
 use Rattle.store.specs.Store.{Store}
 use Rattle.ledger.specs.Kept.{Kept}
 use Rattle.ledger.proofs.Raising.{roots-permute}
 use Rattle.walk.specs.Walk.{walks, Step}
 use Rattle.walk_laws.specs.Took.{Took}
 use Rattle.upkeep.specs.Running.{stateOf, Running}
-use Rattle.upkeep.proofs.Filling.{each-put}
 use Rattle.upkeep.proofs.Tables.{table-walk}
 use Rattle.walking.specs.Walked.{walked}
 use Rattle.walking.proofs.Records.{walked-at, root-count, walked-set, records-set, sizes-again}
@@ -44,7 +44,7 @@ module _ (s : Store) (vs : List VersionRecord) (ws : WalkSlices) (r : Running s 
   taken-runs = record {
     fits = sizes-again r refl taken-kept (took .sizes);
     versions = r .versions;
-    walks = rw (records-set ws then i inside (took .others) s s vs vs) (each-put (LegalWalk (s .nodes)) (walkRecords (stateOf s vs ws)) i _ (r .walks) (inr (took .legal)));
+    walks = rw (records-set ws then i inside (took .others) s s vs vs) (each-set (LegalWalk (s .nodes)) (walkRecords (stateOf s vs ws)) i _ (r .walks) (inr (took .legal)));
     kept = taken-kept;
   }
 
