@@ -15,7 +15,7 @@ use Rattle.meaning.specs.Shape.{degree, height, isRootFull}
 use Rattle.meaning.specs.Trees.{Shaped, heightOf, contents}
 use Rattle.meaning.specs.WellFormed.{LegalBits, Live}
 use Rattle.meaning.specs.Costs.{plain, newCost, setCost, pushCost}
-use Rattle.meaning.proofs.Reaching.{shaped-used, live-shaped}
+use Rattle.meaning.proofs.Reaching.{shaped-used}
 use Rattle.store.specs.Store.{Store}
 use Rattle.paths.specs.Paths.{Made, assoc, grow}
 use Rattle.paths.specs.Edits.{Edit, edit, emptyLeaf, newEdit, shareEdit, setEdit, pushEdit}
@@ -28,20 +28,12 @@ use Rattle.trees.specs.Elements.{inside}
 use Rattle.trees.specs.Edited.{Rooted, made, shared, Edited}
 use Rattle.trees.proofs.Digits.{inside-is}
 use Rattle.meaning.proofs.Rows.{rows-set, rows-push}
-use Rattle.trees.proofs.Agreeing.{live-agrees, contents-agree}
-use Rattle.trees.proofs.Framing.{extends-refl, extends-agrees}
+use Rattle.trees.proofs.Framing.{extends-refl}
 use Rattle.trees.proofs.Making.{make-writes, raised-stocks, stock-lessens}
 use Rattle.trees.proofs.Climbs.{climb-copies, climb-tidies}
 use Rattle.trees.proofs.Climbing.{assoc-climbs, grow-climbs, empty-climbs}
 use Rattle.trees.proofs.Putting.{assoc-puts}
 use Rattle.trees.proofs.Growing.{grow-grows}
-
--- every other version keeps its shape and its contents
-pub edited-keeps : (s : Store) (fresh k : ℕ) (items : List ℕ) (e : Edit) (w : VersionRecord) → Edited s fresh k items e → Live (s .nodes) w
-    → Live (e .store .nodes) w × (contents (e .store .nodes) w ≡ contents (s .nodes) w)
-edited-keeps s fresh k items e w d l =
-    let a = extends-agrees (d .extends) in
-    let own = live-shaped (s .nodes) w l in (live-agrees a w own l, contents-agree a w own l)
 
 -- spare cells stay 0
 pub edited-tidies : (s : Store) (k : ℕ) {fresh : ℕ} {e : Edit} → Rooted s fresh e → Stock s (fresh + k) → Tidy (s .nodes) → Tidy (e .store .nodes)
