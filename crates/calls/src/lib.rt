@@ -3,6 +3,7 @@ mod reads;
 mod walks;
 
 use level::PLACES;
+use records::Supply;
 use records::Version;
 use requests::Frame;
 use requests::operations;
@@ -23,15 +24,15 @@ fn act_on_store(
     counts: &mut [u32],
     cells: &mut [u32],
     order: &mut [u32],
-    free: usize,
+    supply: Supply,
     f: Frame,
     v: Version,
     w: Version,
     old: Version,
 ) -> Served
-    requires { ⌜ Sources (storeOf (now kinds) (now used) (now counts) (now cells) (now order) free) (frameOf f) (recordOf v) (recordOf w) ⌝ }
+    requires { ⌜ Sources (storeOf (now kinds) (now used) (now counts) (now cells) (now order) (supply .free)) (frameOf f) (recordOf v) (recordOf w) ⌝ }
     ensures { λ r. ⌜ actedOf (storeOf (now (kinds .exit)) (now (used .exit)) (now (counts .exit)) (now (cells .exit)) (now (order .exit)) (r .free)) r
-        ≡ storeAct (storeOf (now (kinds .entry)) (now (used .entry)) (now (counts .entry)) (now (cells .entry)) (now (order .entry)) free) (frameOf f) (recordOf v) (recordOf w) (recordOf old) ⌝ }
+        ≡ storeAct (storeOf (now (kinds .entry)) (now (used .entry)) (now (counts .entry)) (now (cells .entry)) (now (order .entry)) (supply .free)) (frameOf f) (recordOf v) (recordOf w) (recordOf old) ⌝ }
 {
     let edits = (f.operation == operations::NEW)
         | (f.operation == operations::CLONE)
@@ -40,12 +41,12 @@ fn act_on_store(
         | (f.operation == operations::DROP_LAST)
         | (f.operation == operations::HAND_OVER);
     if edits {
-        return edits::edit(kinds, used, counts, cells, order, free, f, v, old);
+        return edits::edit(kinds, used, counts, cells, order, supply, f, v, old);
     }
     if f.operation == operations::RELEASE {
-        return edits::release(kinds, used, counts, cells, order, free, v);
+        return edits::release(kinds, used, counts, cells, order, supply, v);
     }
-    reads::read(cells, free, f, v, w, old)
+    reads::read(cells, supply, f, v, w, old)
 }
 
 pub fn act(
@@ -57,16 +58,16 @@ pub fn act(
     numbers: &mut [u32; ROOM],
     nodes: &mut [u32; PLACES],
     indices: &mut [i32; PLACES],
-    free: usize,
+    supply: Supply,
     f: Frame,
     v: Version,
     w: Version,
     old: Version,
 ) -> Served
-    requires { ⌜ Serviceable (storeOf (now kinds) (now used) (now counts) (now cells) (now order) free) (slices (now numbers) (now nodes) (now indices)) (frameOf f) (recordOf v) (recordOf w) ⌝ }
+    requires { ⌜ Serviceable (storeOf (now kinds) (now used) (now counts) (now cells) (now order) (supply .free)) (slices (now numbers) (now nodes) (now indices)) (frameOf f) (recordOf v) (recordOf w) ⌝ }
     ensures { λ r. ⌜ withWalks (actedOf (storeOf (now (kinds .exit)) (now (used .exit)) (now (counts .exit)) (now (cells .exit)) (now (order .exit)) (r .free)) r)
         (slices (now (numbers .exit)) (now (nodes .exit)) (now (indices .exit)))
-        ≡ act (storeOf (now (kinds .entry)) (now (used .entry)) (now (counts .entry)) (now (cells .entry)) (now (order .entry)) free)
+        ≡ act (storeOf (now (kinds .entry)) (now (used .entry)) (now (counts .entry)) (now (cells .entry)) (now (order .entry)) (supply .free))
         (slices (now (numbers .entry)) (now (nodes .entry)) (now (indices .entry))) (frameOf f) (recordOf v) (recordOf w) (recordOf old) ⌝ }
 {
     let walks = (f.operation == operations::NEXT)
@@ -83,11 +84,11 @@ pub fn act(
             numbers,
             nodes,
             indices,
-            free,
+            supply,
             f,
             v,
             old,
         );
     }
-    act_on_store(kinds, used, counts, cells, order, free, f, v, w, old)
+    act_on_store(kinds, used, counts, cells, order, supply, f, v, w, old)
 }

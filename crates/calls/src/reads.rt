@@ -1,4 +1,5 @@
 // The operations that change nothing.
+use records::Supply;
 use records::Version;
 use requests::Frame;
 use requests::operations;
@@ -17,10 +18,11 @@ fn word(n: usize) -> u32
     n as u32
 }
 
-pub fn read(cells: &[u32], free: usize, f: Frame, v: Version, w: Version, old: Version) -> Served
-    requires { ⌜ Readable (frameOf f) free (recordOf v) (recordOf w) ⌝ }
-    ensures { λ r. ⌜ r ≡ readWith (now (cells .entry)) free (frameOf f) v w old ⌝ }
+pub fn read(cells: &[u32], supply: Supply, f: Frame, v: Version, w: Version, old: Version) -> Served
+    requires { ⌜ Readable (frameOf f) (supply .free) (recordOf v) (recordOf w) ⌝ }
+    ensures { λ r. ⌜ r ≡ readWith (now (cells .entry)) (supply .free) (frameOf f) v w old ⌝ }
 {
+    let free = supply.free;
     if f.operation == operations::GET {
         return served::of_got(lookup::get(cells, v, f.index), free, old);
     }

@@ -1,6 +1,7 @@
 // The operations on walks: open, next, next_back and close.
 use level::PLACES;
 use records::NodeNo;
+use records::Supply;
 use records::Version;
 use requests::Frame;
 use requests::operations;
@@ -32,18 +33,18 @@ pub fn walk_place(party: u8, walk: u8) -> u32
 fn open(
     counts: &mut [u32],
     numbers: &mut [u32; ROOM],
-    free: usize,
+    supply: Supply,
     n: u32,
     v: Version,
     old: Version,
 ) -> Served
     requires link { ⌜ Linkable (now counts) (v .root) ⌝ }
     requires place { ⌜ n < walks ⌝ }
-    ensures { λ r. ⌜ Opens (now (counts .entry)) (now (numbers .entry)) free n (recordOf v) old (now (counts .exit)) (now (numbers .exit)) r ⌝ }
+    ensures { λ r. ⌜ Opens (now (counts .entry)) (now (numbers .entry)) (supply .free) n (recordOf v) old (now (counts .exit)) (now (numbers .exit)) r ⌝ }
 {
     store::raise(counts, NodeNo(v.root));
     walk::open(numbers, n, v);
-    served::answered(0, free, old)
+    served::answered(0, supply.free, old)
 }
 
 fn close(
@@ -55,18 +56,19 @@ fn close(
     numbers: &mut [u32; ROOM],
     nodes: &mut [u32; PLACES],
     indices: &mut [i32; PLACES],
-    free: usize,
+    supply: Supply,
     n: u32,
     old: Version,
 ) -> Served
-    requires release { ⌜ Releasable (storeOf (now kinds) (now used) (now counts) (now cells) (now order) free) (versionIn (now numbers) n .root) ⌝ }
+    requires release { ⌜ Releasable (storeOf (now kinds) (now used) (now counts) (now cells) (now order) (supply .free)) (versionIn (now numbers) n .root) ⌝ }
     requires place { ⌜ n < walks ⌝ }
-    ensures { λ r. ⌜ Closes (storeOf (now (kinds .entry)) (now (used .entry)) (now (counts .entry)) (now (cells .entry)) (now (order .entry)) free)
+    ensures { λ r. ⌜ Closes (storeOf (now (kinds .entry)) (now (used .entry)) (now (counts .entry)) (now (cells .entry)) (now (order .entry)) (supply .free))
         (slices (now (numbers .entry)) (now (nodes .entry)) (now (indices .entry))) n old
         (storeOf (now (kinds .exit)) (now (used .exit)) (now (counts .exit)) (now (cells .entry)) (now (order .exit)) (r .free))
         (slices (now (numbers .exit)) (now (nodes .exit)) (now (indices .exit))) r ⌝ }
 {
     let v = walk::version(numbers, n);
+    let free = supply.free;
     let left = sweep::release(kinds, used, counts, cells, order, free, NodeNo(v.root));
     walk::close(numbers, nodes, indices, n);
     served::answered(0, left, old)
@@ -78,17 +80,17 @@ fn step(
     numbers: &mut [u32; ROOM],
     nodes: &mut [u32; PLACES],
     indices: &mut [i32; PLACES],
-    free: usize,
+    supply: Supply,
     n: u32,
     back: bool,
     old: Version,
 ) -> Served
     requires { ⌜ Walkable (now numbers) n ⌝ }
-    ensures { λ r. ⌜ Steps (takenBy (now (cells .entry)) (now (used .entry)) back (slices (now (numbers .entry)) (now (nodes .entry)) (now (indices .entry))) n) free old
+    ensures { λ r. ⌜ Steps (takenBy (now (cells .entry)) (now (used .entry)) back (slices (now (numbers .entry)) (now (nodes .entry)) (now (indices .entry))) n) (supply .free) old
         (slices (now (numbers .exit)) (now (nodes .exit)) (now (indices .exit))) r ⌝ }
 {
     let g = walk::take(cells, used, numbers, nodes, indices, n, back);
-    served::of_got(g, free, old)
+    served::of_got(g, supply.free, old)
 }
 
 pub fn act_on_walk(
@@ -100,20 +102,20 @@ pub fn act_on_walk(
     numbers: &mut [u32; ROOM],
     nodes: &mut [u32; PLACES],
     indices: &mut [i32; PLACES],
-    free: usize,
+    supply: Supply,
     f: Frame,
     v: Version,
     old: Version,
 ) -> Served
-    requires { ⌜ OnWalk (storeOf (now kinds) (now used) (now counts) (now cells) (now order) free) (slices (now numbers) (now nodes) (now indices)) (frameOf f) (recordOf v) ⌝ }
+    requires { ⌜ OnWalk (storeOf (now kinds) (now used) (now counts) (now cells) (now order) (supply .free)) (slices (now numbers) (now nodes) (now indices)) (frameOf f) (recordOf v) ⌝ }
     ensures { λ r. ⌜ withWalks (actedOf (storeOf (now (kinds .exit)) (now (used .exit)) (now (counts .exit)) (now (cells .entry)) (now (order .exit)) (r .free)) r)
         (slices (now (numbers .exit)) (now (nodes .exit)) (now (indices .exit)))
-        ≡ walkAct (storeOf (now (kinds .entry)) (now (used .entry)) (now (counts .entry)) (now (cells .entry)) (now (order .entry)) free)
+        ≡ walkAct (storeOf (now (kinds .entry)) (now (used .entry)) (now (counts .entry)) (now (cells .entry)) (now (order .entry)) (supply .free))
         (slices (now (numbers .entry)) (now (nodes .entry)) (now (indices .entry))) (frameOf f) (recordOf v) (recordOf old) ⌝ }
 {
     if f.operation == operations::OPEN_WALK {
         let n = walk_place(f.party, f.destination);
-        return open(counts, numbers, free, n, v, old);
+        return open(counts, numbers, supply, n, v, old);
     }
     let n = walk_place(f.party, f.slot);
     if f.operation == operations::CLOSE_WALK {
@@ -126,11 +128,11 @@ pub fn act_on_walk(
             numbers,
             nodes,
             indices,
-            free,
+            supply,
             n,
             old,
         );
     }
     let back = f.operation == operations::NEXT_BACK;
-    step(cells, used, numbers, nodes, indices, free, n, back, old)
+    step(cells, used, numbers, nodes, indices, supply, n, back, old)
 }

@@ -1,4 +1,5 @@
 // The operations that edit: what a frame that passes the first six checks makes of the store and of the record that it fills or empties.
+use records::Supply;
 use records::Version;
 use requests::Frame;
 use requests::operations;
@@ -23,34 +24,44 @@ fn edit_path(
     counts: &mut [u32],
     cells: &mut [u32],
     order: &[u32],
-    free: usize,
+    supply: Supply,
     f: Frame,
     v: Version,
     old: Version,
 ) -> Served
-    requires { ⌜ Able (storeOf (now kinds) (now used) (now counts) (now cells) (now order) free) (recordOf v) ⌝ }
+    requires { ⌜ Able (storeOf (now kinds) (now used) (now counts) (now cells) (now order) (supply .free)) (recordOf v) ⌝ }
     ensures { λ r. ⌜ actedOf (storeOf (now (kinds .exit)) (now (used .exit)) (now (counts .exit)) (now (cells .exit)) (now (order .entry)) (r .free)) r
-        ≡ pathAct (storeOf (now (kinds .entry)) (now (used .entry)) (now (counts .entry)) (now (cells .entry)) (now (order .entry)) free) (frameOf f) (recordOf v) (recordOf old) ⌝ }
+        ≡ pathAct (storeOf (now (kinds .entry)) (now (used .entry)) (now (counts .entry)) (now (cells .entry)) (now (order .entry)) (supply .free)) (frameOf f) (recordOf v) (recordOf old) ⌝ }
 {
     if f.operation == operations::SET {
-        let e = vector::set(kinds, used, counts, cells, order, free, v, f.index, f.value);
-        return served::of_edited(e, free, old);
+        let e = vector::set(
+            kinds,
+            used,
+            counts,
+            cells,
+            order,
+            supply,
+            v,
+            f.index,
+            f.value,
+        );
+        return served::of_edited(e, supply.free, old);
     }
     if f.operation == operations::PUSH_BACK {
-        let e = vector::push_back(kinds, used, counts, cells, order, free, v, f.value);
-        return served::of_edited(e, free, old);
+        let e = vector::push_back(kinds, used, counts, cells, order, supply, v, f.value);
+        return served::of_edited(e, supply.free, old);
     }
-    let e = vector::drop_last(kinds, used, counts, cells, order, free, v);
-    served::of_edited(e, free, old)
+    let e = vector::drop_last(kinds, used, counts, cells, order, supply, v);
+    served::of_edited(e, supply.free, old)
 }
 
-fn share(counts: &mut [u32], free: usize, v: Version) -> Served
+fn share(counts: &mut [u32], supply: Supply, v: Version) -> Served
     requires { ⌜ Linkable (now counts) (v .root) ⌝ }
     ensures { λ r. ⌜ ((s : Nodes) (order : List ℕ) → actedOf (storeOn s (now (counts .exit)) order (r .free)) r
-        ≡ sharedAct (storeOn s (now (counts .entry)) order free) (recordOf v)) ⌝ }
+        ≡ sharedAct (storeOn s (now (counts .entry)) order (supply .free)) (recordOf v)) ⌝ }
 {
     let shared = vector::clone(counts, v);
-    served::answered(0, free, shared)
+    served::answered(0, supply.free, shared)
 }
 
 // New, clone, set, push_back, drop_last and hand-over.
@@ -60,25 +71,25 @@ pub fn edit(
     counts: &mut [u32],
     cells: &mut [u32],
     order: &[u32],
-    free: usize,
+    supply: Supply,
     f: Frame,
     v: Version,
     old: Version,
 ) -> Served
-    requires steady { ⌜ Steady (storeOf (now kinds) (now used) (now counts) (now cells) (now order) free) ⌝ }
-    requires able { ⌜ (f .operation ≢ NEW → Able (storeOf (now kinds) (now used) (now counts) (now cells) (now order) free) (recordOf v)) ⌝ }
+    requires steady { ⌜ Steady (storeOf (now kinds) (now used) (now counts) (now cells) (now order) (supply .free)) ⌝ }
+    requires able { ⌜ (f .operation ≢ NEW → Able (storeOf (now kinds) (now used) (now counts) (now cells) (now order) (supply .free)) (recordOf v)) ⌝ }
     ensures { λ r. ⌜ actedOf (storeOf (now (kinds .exit)) (now (used .exit)) (now (counts .exit)) (now (cells .exit)) (now (order .entry)) (r .free)) r
-        ≡ editAct (storeOf (now (kinds .entry)) (now (used .entry)) (now (counts .entry)) (now (cells .entry)) (now (order .entry)) free) (frameOf f) (recordOf v) (recordOf old) ⌝ }
+        ≡ editAct (storeOf (now (kinds .entry)) (now (used .entry)) (now (counts .entry)) (now (cells .entry)) (now (order .entry)) (supply .free)) (frameOf f) (recordOf v) (recordOf old) ⌝ }
 {
     if f.operation == operations::NEW {
-        let e = vector::new_with_bits(kinds, used, counts, cells, order, free, f.index);
-        return served::of_edited(e, free, old);
+        let e = vector::new_with_bits(kinds, used, counts, cells, order, supply, f.index);
+        return served::of_edited(e, supply.free, old);
     }
     let shares = (f.operation == operations::CLONE) | (f.operation == operations::HAND_OVER);
     if shares {
-        return share(counts, free, v);
+        return share(counts, supply, v);
     }
-    edit_path(kinds, used, counts, cells, order, free, f, v, old)
+    edit_path(kinds, used, counts, cells, order, supply, f, v, old)
 }
 
 pub fn release(
@@ -87,13 +98,13 @@ pub fn release(
     counts: &mut [u32],
     cells: &[u32],
     order: &mut [u32],
-    free: usize,
+    supply: Supply,
     v: Version,
 ) -> Served
-    requires { ⌜ Able (storeOf (now kinds) (now used) (now counts) (now cells) (now order) free) (recordOf v) ⌝ }
+    requires { ⌜ Able (storeOf (now kinds) (now used) (now counts) (now cells) (now order) (supply .free)) (recordOf v) ⌝ }
     ensures { λ r. ⌜ actedOf (storeOf (now (kinds .exit)) (now (used .exit)) (now (counts .exit)) (now (cells .entry)) (now (order .exit)) (r .free)) r
-        ≡ releasedAct (storeOf (now (kinds .entry)) (now (used .entry)) (now (counts .entry)) (now (cells .entry)) (now (order .entry)) free) (recordOf v) ⌝ }
+        ≡ releasedAct (storeOf (now (kinds .entry)) (now (used .entry)) (now (counts .entry)) (now (cells .entry)) (now (order .entry)) (supply .free)) (recordOf v) ⌝ }
 {
-    let left = vector::release(kinds, used, counts, cells, order, free, v);
+    let left = vector::release(kinds, used, counts, cells, order, supply, v);
     served::answered(0, left, Version::empty())
 }

@@ -10,6 +10,11 @@ pub struct NodeNo(pub u32);
 // The number of a version slot among all 64: another kind of number than a node's.
 pub struct SlotNo(pub u32);
 
+// What a call may take nodes from.
+pub struct Supply {
+    pub free: usize,
+}
+
 // A version record. Any numbers may stand in a lent one; the audit says which are legal.
 #[repr(C)]
 pub struct Version {

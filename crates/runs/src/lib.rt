@@ -1,5 +1,6 @@
 // Frames in order on a state that runs, each answered at its 6 bytes.
 use level::PLACES;
+use records::Supply;
 use records::Version;
 use requests::Answer;
 use requests::Frame;
@@ -54,17 +55,17 @@ fn serve(
     numbers: &mut [u32; ROOM],
     nodes: &mut [u32; PLACES],
     indices: &mut [i32; PLACES],
-    free: usize,
+    supply: Supply,
     f: Frame,
     at_source: Version,
     at_target: Version,
     old: Version,
 ) -> Served
-    requires { ⌜ Turnable (storeOf (now kinds) (now used) (now counts) (now cells) (now order) free) (slices (now numbers) (now nodes) (now indices))
+    requires { ⌜ Turnable (storeOf (now kinds) (now used) (now counts) (now cells) (now order) (supply .free)) (slices (now numbers) (now nodes) (now indices))
         (frameOf f) (sourceFrom (frameOf f) (recordOf «at_source»)) (targetFrom (frameOf f) (recordOf «at_target»)) ⌝ }
     ensures { λ r. ⌜ withWalks (actedOf (storeOf (now (kinds .exit)) (now (used .exit)) (now (counts .exit)) (now (cells .exit)) (now (order .exit)) (r .free)) r)
         (slices (now (numbers .exit)) (now (nodes .exit)) (now (indices .exit)))
-        ≡ turn (storeOf (now (kinds .entry)) (now (used .entry)) (now (counts .entry)) (now (cells .entry)) (now (order .entry)) free)
+        ≡ turn (storeOf (now (kinds .entry)) (now (used .entry)) (now (counts .entry)) (now (cells .entry)) (now (order .entry)) (supply .free))
         (slices (now (numbers .entry)) (now (nodes .entry)) (now (indices .entry)))
         (frameOf f) (sourceFrom (frameOf f) (recordOf «at_source»)) (targetFrom (frameOf f) (recordOf «at_target»)) (recordOf old) ⌝ }
 {
@@ -81,7 +82,7 @@ fn serve(
         numbers,
         nodes,
         indices,
-        free,
+        supply,
         f,
         v,
         w,
@@ -194,7 +195,7 @@ pub fn run(
             numbers,
             nodes,
             indices,
-            left,
+            Supply { free: left },
             f,
             at_source,
             at_target,

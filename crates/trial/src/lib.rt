@@ -8,6 +8,7 @@ use answers::of_edited;
 use answers::of_got;
 use answers::of_version;
 use compare::Ordering;
+use records::Supply;
 use records::Version;
 ghost use mathlib.Core.Path.{_≡_};
 ghost use Prim.Native.Nat.{_<_};
@@ -96,7 +97,15 @@ pub extern "C" fn jumperloft_trial_new(
     requires { ⌜ Steady (storeOf (now kinds) (now used) (now counts) (now cells) (now order) free) ⌝ }
 {
     of_edited(
-        vector::new_with_bits(kinds, used, counts, cells, order, free, bits),
+        vector::new_with_bits(
+            kinds,
+            used,
+            counts,
+            cells,
+            order,
+            Supply { free: free },
+            bits,
+        ),
         free,
     )
 }
@@ -123,7 +132,7 @@ pub extern "C" fn jumperloft_trial_release(
     numbered(
         0,
         0,
-        vector::release(kinds, used, counts, cells, order, free, v),
+        vector::release(kinds, used, counts, cells, order, Supply { free: free }, v),
     )
 }
 
@@ -142,7 +151,17 @@ pub extern "C" fn jumperloft_trial_set(
     requires { ⌜ Editable (storeOf (now kinds) (now used) (now counts) (now cells) (now order) free) (recordOf v)
         (SetWay (storeOf (now kinds) (now used) (now counts) (now cells) (now order) free) (recordOf v) index) ⌝ }
 {
-    let e = vector::set(kinds, used, counts, cells, order, free, v, index, value);
+    let e = vector::set(
+        kinds,
+        used,
+        counts,
+        cells,
+        order,
+        Supply { free: free },
+        v,
+        index,
+        value,
+    );
     of_edited(e, free)
 }
 
@@ -160,7 +179,16 @@ pub extern "C" fn jumperloft_trial_push(
     requires { ⌜ Editable (storeOf (now kinds) (now used) (now counts) (now cells) (now order) free) (recordOf v)
         (PushWay (storeOf (now kinds) (now used) (now counts) (now cells) (now order) free) (recordOf v)) ⌝ }
 {
-    let e = vector::push_back(kinds, used, counts, cells, order, free, v, value);
+    let e = vector::push_back(
+        kinds,
+        used,
+        counts,
+        cells,
+        order,
+        Supply { free: free },
+        v,
+        value,
+    );
     of_edited(e, free)
 }
 
@@ -178,7 +206,7 @@ pub extern "C" fn jumperloft_trial_drop(
         (DropWay (storeOf (now kinds) (now used) (now counts) (now cells) (now order) free) (recordOf v)) ⌝ }
 {
     of_edited(
-        vector::drop_last(kinds, used, counts, cells, order, free, v),
+        vector::drop_last(kinds, used, counts, cells, order, Supply { free: free }, v),
         free,
     )
 }

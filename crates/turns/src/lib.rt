@@ -1,5 +1,6 @@
 // One frame on the records that it names: the checks, then the call.
 use level::PLACES;
+use records::Supply;
 use records::Version;
 use requests::Frame;
 use requests::operations;
@@ -84,23 +85,23 @@ pub fn serve(
     numbers: &mut [u32; ROOM],
     nodes: &mut [u32; PLACES],
     indices: &mut [i32; PLACES],
-    free: usize,
+    supply: Supply,
     f: Frame,
     v: Version,
     w: Version,
     old: Version,
 ) -> Served
-    requires { ⌜ Turnable (storeOf (now kinds) (now used) (now counts) (now cells) (now order) free) (slices (now numbers) (now nodes) (now indices)) (frameOf f) (recordOf v) (recordOf w) ⌝ }
+    requires { ⌜ Turnable (storeOf (now kinds) (now used) (now counts) (now cells) (now order) (supply .free)) (slices (now numbers) (now nodes) (now indices)) (frameOf f) (recordOf v) (recordOf w) ⌝ }
     ensures { λ r. ⌜ withWalks (actedOf (storeOf (now (kinds .exit)) (now (used .exit)) (now (counts .exit)) (now (cells .exit)) (now (order .exit)) (r .free)) r)
         (slices (now (numbers .exit)) (now (nodes .exit)) (now (indices .exit)))
-        ≡ turn (storeOf (now (kinds .entry)) (now (used .entry)) (now (counts .entry)) (now (cells .entry)) (now (order .entry)) free)
+        ≡ turn (storeOf (now (kinds .entry)) (now (used .entry)) (now (counts .entry)) (now (cells .entry)) (now (order .entry)) (supply .free))
         (slices (now (numbers .entry)) (now (nodes .entry)) (now (indices .entry))) (frameOf f) (recordOf v) (recordOf w) (recordOf old) ⌝ }
 {
     let used_walk = is_open(numbers, refusals::giver(f), f.slot);
     let opened_walk = is_open(numbers, refusals::taker(f), f.destination);
     let number = refusals::refusal(f, v.live == 1, w.live == 1, used_walk, opened_walk);
     if number != refusals::DONE {
-        return served::refused(number, free, old);
+        return served::refused(number, supply.free, old);
     }
     calls::act(
         kinds,
@@ -111,7 +112,7 @@ pub fn serve(
         numbers,
         nodes,
         indices,
-        free,
+        supply,
         f,
         v,
         w,

@@ -1,9 +1,9 @@
 // Module 4: the calls on a version. Each refuses before it writes anything.
 use records::NodeNo;
+use records::Supply;
 use records::Version;
 use store::Made;
 ghost use mathlib.Core.Path.{_≡_};
-ghost use mathlib.Core.Bool.{true};
 ghost use mathlib.Core.List.{List};
 ghost use Prim.Native.Nat.{ℕ, _+_, _-_};
 ghost use Rattle.meaning.specs.Lent.{Nodes};
@@ -11,9 +11,8 @@ ghost use Rattle.records.specs.Records.{recordOf};
 ghost use Rattle.store.specs.Store.{storeOf};
 ghost use Rattle.sweep.specs.Sweep.{release};
 ghost use Rattle.sweep.specs.Ready.{storeOn, Releasable};
-ghost use Rattle.paths.specs.Paths.{assoc};
 ghost use Rattle.paths.specs.Edits.{edit, shareEdit, pushEdit, dropEdit};
-ghost use Rattle.paths.specs.Ready.{madeOf, Way, Ready};
+ghost use Rattle.paths.specs.Ready.{madeOf};
 ghost use Rattle.vector.specs.Calls.{doneWith, calledOf, done, newCall, setCall, pushCall, dropCall};
 ghost use Rattle.vector.specs.Ready.{editOf, Linkable, Steady, Editable, SetWay, PushWay, DropWay, CanPush, CanDrop, Fell};
 
@@ -36,14 +35,14 @@ pub enum Edited {
     NoNodes,
 }
 
-fn done(made: Made, free: usize, bits: u32, length: u32) -> Edited
-    requires { ⌜ Fell free (made .free) ⌝ }
-    ensures { λ r. ⌜ r ≡ doneWith (made .node .0) bits length free (made .free) ⌝ }
+fn done(made: Made, supply: Supply, bits: u32, length: u32) -> Edited
+    requires { ⌜ Fell (supply .free) (made .free) ⌝ }
+    ensures { λ r. ⌜ r ≡ doneWith (made .node .0) bits length (supply .free) (made .free) ⌝ }
 {
     let version = Version::new_with_bits(bits, made.node).with_length(length);
     Edited::Done(Edit {
         version: version,
-        copied: (free - made.free) as u32,
+        copied: (supply.free - made.free) as u32,
         free: made.free,
     })
 }
@@ -54,22 +53,22 @@ pub fn new_with_bits(
     counts: &mut [u32],
     cells: &mut [u32],
     order: &[u32],
-    free: usize,
+    supply: Supply,
     bits: u32,
 ) -> Edited
-    requires { ⌜ Steady (storeOf (now kinds) (now used) (now counts) (now cells) (now order) free) ⌝ }
-    ensures { λ r. ⌜ calledOf (now (kinds .exit)) (now (used .exit)) (now (counts .exit)) (now (cells .exit)) (now (order .entry)) free r
-        ≡ newCall (storeOf (now (kinds .entry)) (now (used .entry)) (now (counts .entry)) (now (cells .entry)) (now (order .entry)) free) bits ⌝ }
+    requires { ⌜ Steady (storeOf (now kinds) (now used) (now counts) (now cells) (now order) (supply .free)) ⌝ }
+    ensures { λ r. ⌜ calledOf (now (kinds .exit)) (now (used .exit)) (now (counts .exit)) (now (cells .exit)) (now (order .entry)) (supply .free) r
+        ≡ newCall (storeOf (now (kinds .entry)) (now (used .entry)) (now (counts .entry)) (now (cells .entry)) (now (order .entry)) (supply .free)) bits ⌝ }
 {
     let legal = (bits >= 1) & (bits <= MAX_BITS);
     if !legal {
         return Edited::BadBits;
     }
-    if free < 1 {
+    if supply.free < 1 {
         return Edited::NoNodes;
     }
-    let r = paths::new_empty_leaf(kinds, used, counts, cells, order, free);
-    done(r, free, bits, 0)
+    let r = paths::new_empty_leaf(kinds, used, counts, cells, order, supply.free);
+    done(r, supply, bits, 0)
 }
 
 // One link more to the root.
@@ -82,65 +81,44 @@ pub fn clone(counts: &mut [u32], v: Version) -> Version
     v
 }
 
-// The way to an index of the version, copied with a value there.
-fn assoc(
-    kinds: &mut [u8],
-    used: &mut [u8],
-    counts: &mut [u32],
-    cells: &mut [u32],
-    order: &[u32],
-    free: usize,
-    v: Version,
-    height: u32,
-    index: u32,
-    value: u32,
-) -> Made
-    requires { ⌜ Ready (storeOf (now kinds) (now used) (now counts) (now cells) (now order) free) (v .bits) height
-        (Way (storeOf (now kinds) (now used) (now counts) (now cells) (now order) free) (v .bits) height true (v .root) index) ⌝ }
-    ensures { λ r. ⌜ madeOf (storeOf (now (kinds .exit)) (now (used .exit)) (now (counts .exit)) (now (cells .exit)) (now (order .entry)) (r .free)) (r .node .0)
-        ≡ assoc (storeOf (now (kinds .entry)) (now (used .entry)) (now (counts .entry)) (now (cells .entry)) (now (order .entry)) free) (v .bits) height true (v .root) index value ⌝ }
-{
-    paths::assoc(
-        kinds,
-        used,
-        counts,
-        cells,
-        order,
-        free,
-        v.bits,
-        height,
-        true,
-        NodeNo(v.root),
-        index,
-        value,
-    )
-}
-
 pub fn set(
     kinds: &mut [u8],
     used: &mut [u8],
     counts: &mut [u32],
     cells: &mut [u32],
     order: &[u32],
-    free: usize,
+    supply: Supply,
     v: Version,
     index: u32,
     value: u32,
 ) -> Edited
-    requires { ⌜ Editable (storeOf (now kinds) (now used) (now counts) (now cells) (now order) free) (recordOf v)
-        (SetWay (storeOf (now kinds) (now used) (now counts) (now cells) (now order) free) (recordOf v) index) ⌝ }
-    ensures { λ r. ⌜ calledOf (now (kinds .exit)) (now (used .exit)) (now (counts .exit)) (now (cells .exit)) (now (order .entry)) free r
-        ≡ setCall (storeOf (now (kinds .entry)) (now (used .entry)) (now (counts .entry)) (now (cells .entry)) (now (order .entry)) free) (recordOf v) index value ⌝ }
+    requires { ⌜ Editable (storeOf (now kinds) (now used) (now counts) (now cells) (now order) (supply .free)) (recordOf v)
+        (SetWay (storeOf (now kinds) (now used) (now counts) (now cells) (now order) (supply .free)) (recordOf v) index) ⌝ }
+    ensures { λ r. ⌜ calledOf (now (kinds .exit)) (now (used .exit)) (now (counts .exit)) (now (cells .exit)) (now (order .entry)) (supply .free) r
+        ≡ setCall (storeOf (now (kinds .entry)) (now (used .entry)) (now (counts .entry)) (now (cells .entry)) (now (order .entry)) (supply .free)) (recordOf v) index value ⌝ }
 {
     if v.length <= index {
         return Edited::NothingThere;
     }
     let h = shape::height(v.bits, v.length);
-    if free < h as usize + 1 {
+    if supply.free < h as usize + 1 {
         return Edited::NoNodes;
     }
-    let r = assoc(kinds, used, counts, cells, order, free, v, h, index, value);
-    done(r, free, v.bits, v.length)
+    let r = paths::assoc(
+        kinds,
+        used,
+        counts,
+        cells,
+        order,
+        supply.free,
+        v.bits,
+        h,
+        true,
+        NodeNo(v.root),
+        index,
+        value,
+    );
+    done(r, supply, v.bits, v.length)
 }
 
 // The way to the next index, below a new root where the root is full.
@@ -150,15 +128,15 @@ fn pushed(
     counts: &mut [u32],
     cells: &mut [u32],
     order: &[u32],
-    free: usize,
+    supply: Supply,
     v: Version,
     h: u32,
     length: u32,
     value: u32,
 ) -> Edited
-    requires { ⌜ CanPush (storeOf (now kinds) (now used) (now counts) (now cells) (now order) free) (recordOf v) h length ⌝ }
-    ensures { λ r. ⌜ calledOf (now (kinds .exit)) (now (used .exit)) (now (counts .exit)) (now (cells .exit)) (now (order .entry)) free r
-        ≡ done free (pushEdit (storeOf (now (kinds .entry)) (now (used .entry)) (now (counts .entry)) (now (cells .entry)) (now (order .entry)) free) (recordOf v) value) ⌝ }
+    requires { ⌜ CanPush (storeOf (now kinds) (now used) (now counts) (now cells) (now order) (supply .free)) (recordOf v) h length ⌝ }
+    ensures { λ r. ⌜ calledOf (now (kinds .exit)) (now (used .exit)) (now (counts .exit)) (now (cells .exit)) (now (order .entry)) (supply .free) r
+        ≡ done (supply .free) (pushEdit (storeOf (now (kinds .entry)) (now (used .entry)) (now (counts .entry)) (now (cells .entry)) (now (order .entry)) (supply .free)) (recordOf v) value) ⌝ }
 {
     let index = v.length;
     if shape::is_root_full(v.bits, index) {
@@ -168,17 +146,30 @@ fn pushed(
             counts,
             cells,
             order,
-            free,
+            supply.free,
             v.bits,
             h,
             NodeNo(v.root),
             index,
             value,
         );
-        return done(made, free, v.bits, length);
+        return done(made, supply, v.bits, length);
     }
-    let made = assoc(kinds, used, counts, cells, order, free, v, h, index, value);
-    done(made, free, v.bits, length)
+    let made = paths::assoc(
+        kinds,
+        used,
+        counts,
+        cells,
+        order,
+        supply.free,
+        v.bits,
+        h,
+        true,
+        NodeNo(v.root),
+        index,
+        value,
+    );
+    done(made, supply, v.bits, length)
 }
 
 pub fn push_back(
@@ -187,24 +178,35 @@ pub fn push_back(
     counts: &mut [u32],
     cells: &mut [u32],
     order: &[u32],
-    free: usize,
+    supply: Supply,
     v: Version,
     value: u32,
 ) -> Edited
-    requires { ⌜ Editable (storeOf (now kinds) (now used) (now counts) (now cells) (now order) free) (recordOf v)
-        (PushWay (storeOf (now kinds) (now used) (now counts) (now cells) (now order) free) (recordOf v)) ⌝ }
-    ensures { λ r. ⌜ calledOf (now (kinds .exit)) (now (used .exit)) (now (counts .exit)) (now (cells .exit)) (now (order .entry)) free r
-        ≡ pushCall (storeOf (now (kinds .entry)) (now (used .entry)) (now (counts .entry)) (now (cells .entry)) (now (order .entry)) free) (recordOf v) value ⌝ }
+    requires { ⌜ Editable (storeOf (now kinds) (now used) (now counts) (now cells) (now order) (supply .free)) (recordOf v)
+        (PushWay (storeOf (now kinds) (now used) (now counts) (now cells) (now order) (supply .free)) (recordOf v)) ⌝ }
+    ensures { λ r. ⌜ calledOf (now (kinds .exit)) (now (used .exit)) (now (counts .exit)) (now (cells .exit)) (now (order .entry)) (supply .free) r
+        ≡ pushCall (storeOf (now (kinds .entry)) (now (used .entry)) (now (counts .entry)) (now (cells .entry)) (now (order .entry)) (supply .free)) (recordOf v) value ⌝ }
 {
     if v.length >= MAX_LENGTH {
         return Edited::Full;
     }
     let length = v.length + 1;
-    if free < shape::height(v.bits, length) as usize + 1 {
+    if supply.free < shape::height(v.bits, length) as usize + 1 {
         return Edited::NoNodes;
     }
     let h = shape::height(v.bits, v.length);
-    pushed(kinds, used, counts, cells, order, free, v, h, length, value)
+    pushed(
+        kinds,
+        used,
+        counts,
+        cells,
+        order,
+        supply,
+        v,
+        h,
+        length,
+        value,
+    )
 }
 
 // The way to the last index without it; an empty leaf for the only one; where the root would keep one child, that child.
@@ -214,20 +216,20 @@ fn dropped(
     counts: &mut [u32],
     cells: &mut [u32],
     order: &[u32],
-    free: usize,
+    supply: Supply,
     v: Version,
     h: u32,
 ) -> Made
-    requires { ⌜ CanDrop (storeOf (now kinds) (now used) (now counts) (now cells) (now order) free) (recordOf v) h ⌝ }
+    requires { ⌜ CanDrop (storeOf (now kinds) (now used) (now counts) (now cells) (now order) (supply .free)) (recordOf v) h ⌝ }
     ensures { λ r. ⌜ edit (madeOf (storeOf (now (kinds .exit)) (now (used .exit)) (now (counts .exit)) (now (cells .exit)) (now (order .entry)) (r .free)) (r .node .0)) (v .bits) (v .length - 1)
-        ≡ dropEdit (storeOf (now (kinds .entry)) (now (used .entry)) (now (counts .entry)) (now (cells .entry)) (now (order .entry)) free) (recordOf v) ⌝ }
+        ≡ dropEdit (storeOf (now (kinds .entry)) (now (used .entry)) (now (counts .entry)) (now (cells .entry)) (now (order .entry)) (supply .free)) (recordOf v) ⌝ }
 {
     let root = NodeNo(v.root);
     if v.length == 1 {
-        return paths::new_empty_leaf(kinds, used, counts, cells, order, free);
+        return paths::new_empty_leaf(kinds, used, counts, cells, order, supply.free);
     }
     if cuts::loses_root(v.bits, h, v.length) {
-        return cuts::compress_root(counts, cells, free, root);
+        return cuts::compress_root(counts, cells, supply.free, root);
     }
     let last = v.length - 1;
     cuts::drop_last(
@@ -236,7 +238,7 @@ fn dropped(
         counts,
         cells,
         order,
-        free,
+        supply.free,
         v.bits,
         h,
         root,
@@ -250,23 +252,23 @@ pub fn drop_last(
     counts: &mut [u32],
     cells: &mut [u32],
     order: &[u32],
-    free: usize,
+    supply: Supply,
     v: Version,
 ) -> Edited
-    requires { ⌜ Editable (storeOf (now kinds) (now used) (now counts) (now cells) (now order) free) (recordOf v)
-        (DropWay (storeOf (now kinds) (now used) (now counts) (now cells) (now order) free) (recordOf v)) ⌝ }
-    ensures { λ r. ⌜ calledOf (now (kinds .exit)) (now (used .exit)) (now (counts .exit)) (now (cells .exit)) (now (order .entry)) free r
-        ≡ dropCall (storeOf (now (kinds .entry)) (now (used .entry)) (now (counts .entry)) (now (cells .entry)) (now (order .entry)) free) (recordOf v) ⌝ }
+    requires { ⌜ Editable (storeOf (now kinds) (now used) (now counts) (now cells) (now order) (supply .free)) (recordOf v)
+        (DropWay (storeOf (now kinds) (now used) (now counts) (now cells) (now order) (supply .free)) (recordOf v)) ⌝ }
+    ensures { λ r. ⌜ calledOf (now (kinds .exit)) (now (used .exit)) (now (counts .exit)) (now (cells .exit)) (now (order .entry)) (supply .free) r
+        ≡ dropCall (storeOf (now (kinds .entry)) (now (used .entry)) (now (counts .entry)) (now (cells .entry)) (now (order .entry)) (supply .free)) (recordOf v) ⌝ }
 {
     if v.length == 0 {
         return Edited::NothingThere;
     }
     let h = shape::height(v.bits, v.length);
-    if free < h as usize + 1 {
+    if supply.free < h as usize + 1 {
         return Edited::NoNodes;
     }
-    let r = dropped(kinds, used, counts, cells, order, free, v, h);
-    done(r, free, v.bits, v.length - 1)
+    let r = dropped(kinds, used, counts, cells, order, supply, v, h);
+    done(r, supply, v.bits, v.length - 1)
 }
 
 // The link to the root is given up. Answers how many nodes are free.
@@ -276,12 +278,13 @@ pub fn release(
     counts: &mut [u32],
     cells: &[u32],
     order: &mut [u32],
-    free: usize,
+    supply: Supply,
     v: Version,
 ) -> usize
-    requires { ⌜ Releasable (storeOf (now kinds) (now used) (now counts) (now cells) (now order) free) (v .root) ⌝ }
+    requires { ⌜ Releasable (storeOf (now kinds) (now used) (now counts) (now cells) (now order) (supply .free)) (v .root) ⌝ }
     ensures { λ r. ⌜ storeOf (now (kinds .exit)) (now (used .exit)) (now (counts .exit)) (now (cells .entry)) (now (order .exit)) r
-        ≡ release (storeOf (now (kinds .entry)) (now (used .entry)) (now (counts .entry)) (now (cells .entry)) (now (order .entry)) free) (v .root) ⌝ }
+        ≡ release (storeOf (now (kinds .entry)) (now (used .entry)) (now (counts .entry)) (now (cells .entry)) (now (order .entry)) (supply .free)) (v .root) ⌝ }
 {
+    let free = supply.free;
     sweep::release(kinds, used, counts, cells, order, free, NodeNo(v.root))
 }

@@ -21,7 +21,7 @@ cast-t8 c = search needs
 
 -- src/lib.rt:39:1
 returns : tie.Need-returns
-returns c = made-done _ _ _ _ _ _ _ (c .before .before .new-with-bits .ensures) (c .before .with-length .ensures)
+returns c = made-done _ _ _ _ _ _ _ (c .before .before .before .new-with-bits .ensures) (c .before .before .with-length .ensures)
 
 pub done-spec : {M : Type 1} → statement M
 done-spec = tie.close (tie.spec new-with-bits-requires with-length-requires sub-t7 cast-t8 returns)

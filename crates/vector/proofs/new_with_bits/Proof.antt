@@ -8,10 +8,10 @@ returns : tie.Need-returns
 returns c = new-bad _ (c .before .before .before .before .before .before .args .bits) (c .if1 .taken)
 
 returns-2 : tie.Need-returns-2
-returns-2 c = new-short _ (c .before .before .before .before .before .before .before .args .bits) (c .before .if1 .left) (c .if2 .taken)
+returns-2 c = new-short _ (c .before .before .before .before .before .before .before .before .args .bits) (c .before .before .if1 .left) (c .if2 .taken)
 
 new-empty-leaf-requires : tie.Need-new-empty-leaf-requires
-new-empty-leaf-requires c κs = new-can _ (c .before .before .before .before .before .before .before .before .before .before .before .pre) (c .before .before .before .before .if2 .left)
+new-empty-leaf-requires c κs = new-can _ (c .before .before .before .before .before .before .before .before .before .before .before .before .pre) (c .before .before .before .before .if2 .left)
 
 done-requires : tie.Need-done-requires
 done-requires c κs = new-fell _ _ _ (c .before .before .before .before .before .before .before .before .new-empty-leaf .ensures)
@@ -29,7 +29,7 @@ same-length-4 : tie.Need-same-length-4
 same-length-4 c = search needs
 
 returns-3 : tie.Need-returns-3
-returns-3 c = new-done _ _ _ _ _ _ (c .before .before .before .before .before .before .before .before .before .before .before .before .before .before .before .before .before .before .before .before .before .args .bits) _ (c .before .before .before .before .before .before .before .before .before .before .before .before .before .before .before .if1 .left) (c .before .before .before .before .before .before .before .before .before .before .before .before .before .before .if2 .left) (c .before .before .before .before .before .before .before .before .before .new-empty-leaf .ensures) (c .done .ensures)
+returns-3 c = new-done _ _ _ _ _ _ (c .before .before .before .before .before .before .before .before .before .before .before .before .before .before .before .before .before .before .before .before .before .before .args .bits) _ (c .before .before .before .before .before .before .before .before .before .before .before .before .before .before .before .before .if1 .left) (c .before .before .before .before .before .before .before .before .before .before .before .before .before .before .if2 .left) (c .before .before .before .before .before .before .before .before .before .new-empty-leaf .ensures) (c .done .ensures)
 
 pub new-with-bits-spec : {M : Type 1} → statement M
 new-with-bits-spec =

@@ -22,13 +22,13 @@ add-if2 : tie.Need-add-if2
 add-if2 c = search needs
 
 returns-2 : tie.Need-returns-2
-returns-2 c = push-short _ (recordOf (c .before .before .before .before .before .before .before .before .before .before .args .v)) _ _ (c .before .before .before .if1 .left) (c .before .height .ensures .0) (c .if2 .taken)
+returns-2 c = push-short _ (recordOf (c .before .before .before .before .before .before .before .before .before .before .before .args .v)) _ _ (c .before .before .before .before .if1 .left) (c .before .before .height .ensures .0) (c .if2 .taken)
 
 height-requires-2 : tie.Need-height-requires-2
 height-requires-2 c κs = search needs
 
 pushed-requires : tie.Need-pushed-requires
-pushed-requires c κs = push-can _ (recordOf (c .before .before .before .before .before .before .before .before .before .before .before .before .before .before .before .args .v)) _ _ (c .before .before .before .before .before .before .before .before .before .before .before .before .before .before .before .pre) (c .before .before .before .before .height2 .ensures .0) (c .before .before .before .before .height2 .ensures .1) (c .before .before .before .before .before .before .before .before .if1 .left) (c .before .before .before .before .before .before .height .ensures .0) (c .before .before .before .before .before .if2 .left)
+pushed-requires c κs = push-can _ (recordOf (c .before .before .before .before .before .before .before .before .before .before .before .before .before .before .before .before .args .v)) _ _ (c .before .before .before .before .before .before .before .before .before .before .before .before .before .before .before .before .pre) (c .before .before .before .before .height2 .ensures .0) (c .before .before .before .before .height2 .ensures .1) (c .before .before .before .before .before .before .before .before .before .if1 .left) (c .before .before .before .before .before .before .before .height .ensures .0) (c .before .before .before .before .before .if2 .left)
 
 same-length : tie.Need-same-length
 same-length c = search needs
@@ -43,7 +43,7 @@ same-length-4 : tie.Need-same-length-4
 same-length-4 c = search needs
 
 returns-3 : tie.Need-returns-3
-returns-3 c = c .before .before .before .before .before .before .before .before .pushed .ensures ∙ push-done _ (recordOf (c .before .before .before .before .before .before .before .before .before .before .before .before .before .before .before .before .before .before .before .before .before .before .before .before .args .v)) (c .before .before .before .before .before .before .before .before .before .before .before .before .before .before .before .before .before .before .before .before .before .before .before .before .args .value) _ (c .before .before .before .before .before .before .before .before .before .before .before .before .before .before .before .before .before .if1 .left) (c .before .before .before .before .before .before .before .before .before .before .before .before .before .before .before .height .ensures .0) (c .before .before .before .before .before .before .before .before .before .before .before .before .before .before .if2 .left)
+returns-3 c = c .before .before .before .before .before .before .before .before .pushed .ensures ∙ push-done _ (recordOf (c .before .before .before .before .before .before .before .before .before .before .before .before .before .before .before .before .before .before .before .before .before .before .before .before .before .args .v)) (c .before .before .before .before .before .before .before .before .before .before .before .before .before .before .before .before .before .before .before .before .before .before .before .before .before .args .value) _ (c .before .before .before .before .before .before .before .before .before .before .before .before .before .before .before .before .before .before .if1 .left) (c .before .before .before .before .before .before .before .before .before .before .before .before .before .before .before .before .height .ensures .0) (c .before .before .before .before .before .before .before .before .before .before .before .before .before .before .if2 .left)
 
 pub push-back-spec : {M : Type 1} → statement M
 push-back-spec =

@@ -18,13 +18,13 @@ add-if2 : tie.Need-add-if2
 add-if2 c = search needs
 
 returns-2 : tie.Need-returns-2
-returns-2 c = set-short _ (recordOf (c .before .before .before .before .before .before .before .before .before .args .v)) _ _ _ (c .before .before .if1 .left) (c .before .height .ensures .0) (c .if2 .taken)
+returns-2 c = set-short _ (recordOf (c .before .before .before .before .before .before .before .before .before .before .args .v)) _ _ _ (c .before .before .before .if1 .left) (c .before .before .height .ensures .0) (c .if2 .taken)
 
 assoc-requires : tie.Need-assoc-requires
-assoc-requires c κs = set-ready _ (recordOf (c .before .before .before .before .before .before .before .before .before .before .before .before .before .args .v)) _ _ (c .before .before .before .before .before .before .before .before .before .before .before .before .before .pre) (c .before .before .before .before .before .height .ensures .0) (c .before .before .before .before .before .height .ensures .1) (c .before .before .before .before .before .before .if1 .left) (c .before .before .before .before .if2 .left)
+assoc-requires c κs = set-ready _ (recordOf (c .before .before .before .before .before .before .before .before .before .before .before .before .before .before .args .v)) _ _ (c .before .before .before .before .before .before .before .before .before .before .before .before .before .before .pre) (c .before .before .before .before .before .before .height .ensures .0) (c .before .before .before .before .before .before .height .ensures .1) (c .before .before .before .before .before .before .before .if1 .left) (c .before .before .before .before .if2 .left)
 
 done-requires : tie.Need-done-requires
-done-requires c κs = set-fell _ _ _ _ _ _ _ _ _ (set-ready _ (recordOf (c .before .before .before .before .before .before .before .before .before .before .before .before .before .before .before .before .before .before .before .before .before .before .args .v)) (c .before .before .before .before .before .before .before .before .before .before .before .before .before .before .before .before .before .before .before .before .before .before .args .index) _ (c .before .before .before .before .before .before .before .before .before .before .before .before .before .before .before .before .before .before .before .before .before .before .pre) (c .before .before .before .before .before .before .before .before .before .before .before .before .before .before .height .ensures .0) (c .before .before .before .before .before .before .before .before .before .before .before .before .before .before .height .ensures .1) (c .before .before .before .before .before .before .before .before .before .before .before .before .before .before .before .if1 .left) (c .before .before .before .before .before .before .before .before .before .before .before .before .before .if2 .left)) (c .before .before .before .before .before .before .before .before .assoc .ensures)
+done-requires c κs = set-fell _ _ _ _ _ _ _ _ _ (set-ready _ (recordOf (c .before .before .before .before .before .before .before .before .before .before .before .before .before .before .before .before .before .before .before .before .before .before .before .args .v)) (c .before .before .before .before .before .before .before .before .before .before .before .before .before .before .before .before .before .before .before .before .before .before .before .args .index) _ (c .before .before .before .before .before .before .before .before .before .before .before .before .before .before .before .before .before .before .before .before .before .before .before .pre) (c .before .before .before .before .before .before .before .before .before .before .before .before .before .before .before .height .ensures .0) (c .before .before .before .before .before .before .before .before .before .before .before .before .before .before .before .height .ensures .1) (c .before .before .before .before .before .before .before .before .before .before .before .before .before .before .before .before .if1 .left) (c .before .before .before .before .before .before .before .before .before .before .before .before .before .if2 .left)) (c .before .before .before .before .before .before .before .before .assoc .ensures)
 
 same-length : tie.Need-same-length
 same-length c = search needs
@@ -39,7 +39,7 @@ same-length-4 : tie.Need-same-length-4
 same-length-4 c = search needs
 
 returns-3 : tie.Need-returns-3
-returns-3 c = let a = c .before .before .before .before .before .before .before .before .before .before .before .before .before .before .before .before .before .before .before .before .before .before .before .args in set-done _ (recordOf (a .v)) (a .index) (a .value) _ _ _ _ _ _ _ (c .before .before .before .before .before .before .before .before .before .before .before .before .before .before .before .before .if1 .left) (c .before .before .before .before .before .before .before .before .before .before .before .before .before .before .before .height .ensures .0) (c .before .before .before .before .before .before .before .before .before .before .before .before .before .before .if2 .left) (set-made _ (recordOf (a .v)) (a .index) (a .value) _ _ (c .before .before .before .before .before .before .before .before .before .before .before .before .before .before .before .height .ensures .0) (c .before .before .before .before .before .before .before .before .before .assoc .ensures)) (c .done .ensures)
+returns-3 c = let a = c .before .before .before .before .before .before .before .before .before .before .before .before .before .before .before .before .before .before .before .before .before .before .before .before .args in set-done _ (recordOf (a .v)) (a .index) (a .value) _ _ _ _ _ _ _ (c .before .before .before .before .before .before .before .before .before .before .before .before .before .before .before .before .before .if1 .left) (c .before .before .before .before .before .before .before .before .before .before .before .before .before .before .before .before .height .ensures .0) (c .before .before .before .before .before .before .before .before .before .before .before .before .before .before .if2 .left) (set-made _ (recordOf (a .v)) (a .index) (a .value) _ _ (c .before .before .before .before .before .before .before .before .before .before .before .before .before .before .before .before .height .ensures .0) (c .before .before .before .before .before .before .before .before .before .assoc .ensures)) (c .done .ensures)
 
 pub set-spec : {M : Type 1} → statement M
 set-spec =
