@@ -9,6 +9,16 @@
 #include <stddef.h>
 #include <stdint.h>
 
+/* Before each of the library's calls. Hidden, a call goes to the copy that the caller is linked with, whatever its link
+ * line and the loader do. Who exports the calls on purpose defines this before the header is included: as nothing, say. */
+#ifndef JUMPERLOFT1_CALL
+#ifdef __GNUC__
+#define JUMPERLOFT1_CALL __attribute__((visibility("hidden")))
+#else
+#define JUMPERLOFT1_CALL
+#endif
+#endif
+
 #ifdef __cplusplus
 extern "C" {
 #endif
@@ -23,7 +33,8 @@ extern "C" {
 #define JUMPERLOFT1_VERSIONS (JUMPERLOFT1_PARTIES * JUMPERLOFT1_SLOTS)
 #define JUMPERLOFT1_WALK_NUMBERS (JUMPERLOFT1_PARTIES * JUMPERLOFT1_WALKS * 6u)
 #define JUMPERLOFT1_WALK_LEVELS (JUMPERLOFT1_PARTIES * JUMPERLOFT1_WALKS * 2u * 15u)
-#define JUMPERLOFT1_DEFAULT_BITS 5u /* bits are 1 to 5 */
+#define JUMPERLOFT1_DEFAULT_BITS 5u
+#define JUMPERLOFT1_MAX_BITS 5u /* bits are 1 to this */
 #define JUMPERLOFT1_MAX_LENGTH 32768u
 #define JUMPERLOFT1_FRAME_SIZE 12u
 #define JUMPERLOFT1_ANSWER_SIZE 6u
@@ -121,11 +132,11 @@ typedef struct jumperloft1_answer {
  *  - JUMPERLOFT1_STACK_SIZE bytes of stack are left, at any number of nodes: the audit has its tables there. */
 
 /* The sizes of a state of so many nodes; all 0 where nodes is 0 or above JUMPERLOFT1_MAX_NODES. */
-jumperloft1_sizes_of jumperloft1_sizes(size_t nodes);
+JUMPERLOFT1_CALL jumperloft1_sizes_of jumperloft1_sizes(size_t nodes);
 
 /* Makes a fresh state: all slots empty, all walks closed, all nodes free. The cells stay as they are.
  * Reports DONE, or ILL_FORMED where the sizes don't fit, and then nothing is written; 0 frames either way. */
-jumperloft1_report jumperloft1_form(
+JUMPERLOFT1_CALL jumperloft1_report jumperloft1_form(
     uint8_t *kinds, size_t kinds_count,
     uint8_t *used, size_t used_count,
     uint32_t *counts, size_t counts_count,
@@ -139,8 +150,9 @@ jumperloft1_report jumperloft1_form(
 /* Audits the state once, then runs the frames of the requests in order, each answered at its 6 bytes of the room.
  * Reports DONE and the count of frames; a refused frame is answered with its number, and the next one runs.
  * Reports RAGGED, NO_ROOM or ILL_FORMED, checked in that order, and then nothing is written and no frame ran.
- * An empty batch is audited. Room beyond 6 bytes a frame stays untouched. */
-jumperloft1_report jumperloft1_batch(
+ * An empty batch is audited. Room beyond 6 bytes a frame stays untouched.
+ * A call audits the whole state, so put many frames in one. */
+JUMPERLOFT1_CALL jumperloft1_report jumperloft1_batch(
     uint8_t *kinds, size_t kinds_count,
     uint8_t *used, size_t used_count,
     uint32_t *counts, size_t counts_count,

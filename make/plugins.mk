@@ -1,4 +1,4 @@
-# The same code in two plug-ins: every ordered pair in every way of loading, and what goes wrong without the link line.
+# The same code in two plug-ins: every ordered pair in every way of loading, and what goes wrong where the calls are not hidden.
 .PHONY: plugins
 
 plugins: host-library

@@ -18,15 +18,10 @@ static const char *const schedules[] = {
     "A a 1 B b A ah 2a 1 BA bab 21",
 };
 
-// What this program exports under our names decides what becomes of careless.so.
-static int exporting;
-static harm_count *harmful;
-
 static const char *directory;
 static findings *seen;
-static size_t orders, wrong, exposed, accidents, frames;
+static size_t orders, wrong, frames;
 static uint32_t operations;
-static char accident[900];
 
 static const char *file_of(const char *plugin, int again)
 {
@@ -56,47 +51,23 @@ static int in_child(const order *o)
     return WIFEXITED(status) && WEXITSTATUS(status) == 0 && seen->harm == 0 ? 0 : -1;
 }
 
-static void words(char *to, size_t room, const char *first, const char *second, const order *o)
-{
-    snprintf(to, room, "program %s, %s.so (%s) and %s.so (%s), %s, \"%s\": %u calls taken by other code; %s",
-        HOST_NAME, first, o->flags[0] & RTLD_GLOBAL ? "RTLD_GLOBAL" : "RTLD_LOCAL",
-        second, o->flags[1] & RTLD_GLOBAL ? "RTLD_GLOBAL" : "RTLD_LOCAL",
-        o->flags[0] & RTLD_NOW ? "RTLD_NOW" : "RTLD_LAZY", o->schedule, seen->harm, seen->said);
-}
-
-// The orders in which careless.so can meet other code under our names.
-static int is_exposed(const char *const names[2], const order *o)
-{
-    for (int k = 0; k < 2; k++) {
-        int meets = !strcmp(names[1 - k], "decoy") && (o->flags[1 - k] & RTLD_GLOBAL) && !exporting;
-        if (!strcmp(names[k], "careless") && (harmful || meets))
-            return 1;
-    }
-    return 0;
-}
-
 static void try_order(const char *const names[2], const order *o)
 {
-    char text[900];
-    int bad = in_child(o), open = is_exposed(names, o);
     orders++;
-    exposed += (size_t)open;
-    if (!bad)
+    if (in_child(o) == 0)
         return;
-    words(text, sizeof text, names[0], names[1], o);
-    if (!open) {
-        wrong++;
-        printf("plugins: FAILED, %s\n", text);
-    } else if (accidents++ == 0) {
-        memcpy(accident, text, sizeof text);
-    }
+    wrong++;
+    printf("plugins: FAILED, program %s, %s.so (%s) and %s.so (%s), %s, \"%s\": %u calls taken by other code; %s\n",
+        HOST_NAME, names[0], o->flags[0] & RTLD_GLOBAL ? "RTLD_GLOBAL" : "RTLD_LOCAL",
+        names[1], o->flags[1] & RTLD_GLOBAL ? "RTLD_GLOBAL" : "RTLD_LOCAL",
+        o->flags[0] & RTLD_NOW ? "RTLD_NOW" : "RTLD_LAZY", o->schedule, seen->harm, seen->said);
 }
 
 static void try_pair(const char *first, const char *second)
 {
     const char *const names[2] = { first, second };
-    order o = { .files = { file_of(first, 0), file_of(second, !strcmp(first, second)) }, .program_harm = harmful };
-    o.stays = !strcmp(first, "careless") || !strcmp(second, "careless");
+    order o = { .files = { file_of(first, 0), file_of(second, !strcmp(first, second)) } };
+    o.program_harm = (harm_count *)dlsym(RTLD_DEFAULT, "harm_done");
     for (int loading = 0; loading < LOADINGS; loading++) {
         int binding = loading & 1 ? RTLD_LAZY : RTLD_NOW;
         o.flags[0] = binding | (loading & 2 ? RTLD_GLOBAL : RTLD_LOCAL);
@@ -121,19 +92,11 @@ static void try_threads(void)
     }
 }
 
-// Whether this program exports names of ours, and whether these do harm.
-static void know_oneself(void)
-{
-    exporting = dlsym(RTLD_DEFAULT, "jumperloft1_batch") != NULL;
-    harmful = (harm_count *)dlsym(RTLD_DEFAULT, "harm_done");
-}
-
 int main(int count, char **given)
 {
     if (count < 3)
         return 2;
     directory = given[1];
-    know_oneself();
     seen = mmap(NULL, sizeof *seen, PROT_READ | PROT_WRITE, MAP_SHARED | MAP_ANONYMOUS, -1, 0);
     if (seen == MAP_FAILED)
         return 2;
@@ -145,12 +108,6 @@ int main(int count, char **given)
         wrong++;
         printf("plugins: FAILED, program %s: the operations done were %X\n", HOST_NAME, operations);
     }
-    if (exposed > 0 && accidents == 0) {
-        wrong++;
-        printf("plugins: FAILED, program %s: careless.so met other code under our names and nothing went wrong\n", HOST_NAME);
-    }
-    if (accidents > 0)
-        printf("accident %s\n", accident);
-    printf("counts %s %zu %zu %zu %zu %zu\n", HOST_NAME, orders, wrong, exposed, accidents, frames);
+    printf("counts %zu %zu %zu\n", orders, wrong, frames);
     return wrong != 0;
 }

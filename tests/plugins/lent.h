@@ -4,10 +4,10 @@
 
 #include "boundary.h"
 
-enum { NODES = 4096, PARTIES = 8, BOOK_FRAMES = 16384, ANY_PARTY = 255 };
+enum { NODES = 1024, BOOK_FRAMES = 16384, ANY_PARTY = 255 };
 
 typedef struct {
-    state s;
+    jumperloft1_state s;
     uint8_t *block;
     size_t size;
 } lending;

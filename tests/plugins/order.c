@@ -2,8 +2,6 @@
 #include <dlfcn.h>
 #include <stdio.h>
 
-enum { RELEASE = 0x02, HAND_OVER = 0x0C };
-
 typedef struct {
     const order *o;
     findings *f;
@@ -45,13 +43,10 @@ static int close_plugin(session *s, int which)
 {
     dlclose(s->handles[which]);
     s->handles[which] = NULL;
-    void *still = dlopen(s->o->files[which], RTLD_LAZY | RTLD_NOLOAD);
-    if (still && !s->o->stays) {
+    if (dlopen(s->o->files[which], RTLD_LAZY | RTLD_NOLOAD)) {
         snprintf(s->f->said, sizeof s->f->said, "%s stays loaded when closed", s->o->files[which]);
         return -1;
     }
-    if (still)
-        dlclose(still);
     return same_bytes(&s->lent, &s->copy, s->f);
 }
 
@@ -75,8 +70,8 @@ static int hand_over(session *s)
 {
     size_t from = s->book.frames;
     for (int which = 0; which < 2; which++) {
-        note(&s->book, party_of(1 - which), RELEASE, 7, 0, 0, 0);
-        note(&s->book, 0, HAND_OVER, 0, 7, party_of(which), party_of(1 - which));
+        note(&s->book, party_of(1 - which), JUMPERLOFT1_RELEASE, 7, 0, 0, 0);
+        note(&s->book, 0, JUMPERLOFT1_HAND_OVER, 0, 7, party_of(which), party_of(1 - which));
     }
     if (serve_noted(&s->lent, &s->book, from)) {
         snprintf(s->f->said, sizeof s->f->said, "the host's own batch is refused");

@@ -13,7 +13,6 @@ typedef struct {
     int flags[2];
     const char *schedule;
     uint32_t seed;
-    int stays; // a closed plug-in may stay loaded
     harm_count *program_harm;
 } order;
 

@@ -3,15 +3,11 @@
 
 enum { BATCHES = 3, BATCH_FRAMES = 80, STEP_FRAMES = 6 };
 
-enum { NEW, CLONE, RELEASE, LENGTH, GET, SET, PUSH, DROP, OPEN, NEXT, NEXT_BACK, CLOSE,
-    FIRST = 0x0E, LAST, COMPARE };
-
-// Where frames are written; current is the slot whose version grows.
+// Frames go into the book; current is the slot whose version grows.
 typedef struct {
     uint32_t seed;
     uint8_t party, current;
-    uint8_t *at;
-    size_t frames;
+    transcript *book;
 } writer;
 
 static uint32_t draw(writer *w)
@@ -22,28 +18,16 @@ static uint32_t draw(writer *w)
     return w->seed;
 }
 
-static void put(uint8_t *to, uint32_t number)
-{
-    for (int k = 0; k < 4; k++)
-        to[k] = (uint8_t)(number >> (24 - 8 * k));
-}
-
 static void say(writer *w, uint8_t operation, uint32_t slot, uint32_t destination, uint32_t index, uint32_t value)
 {
-    uint8_t *f = w->at + FRAME_SIZE * w->frames++;
-    f[0] = w->party;
-    f[1] = operation;
-    f[2] = (uint8_t)slot;
-    f[3] = (uint8_t)destination;
-    put(f + 4, index);
-    put(f + 8, value);
+    jumperloft1_put_frame(request(w->book, w->book->frames++), w->party, operation, (uint8_t)slot, (uint8_t)destination, index, value);
 }
 
 // Another slot than the current one, made empty.
 static uint8_t emptied(writer *w)
 {
     uint8_t other = (uint8_t)((w->current + 1 + draw(w) % 7) % 8);
-    say(w, RELEASE, other, 0, 0, 0);
+    say(w, JUMPERLOFT1_RELEASE, other, 0, 0, 0);
     return other;
 }
 
@@ -51,23 +35,23 @@ static void edit(writer *w, uint8_t operation, uint32_t index)
 {
     uint8_t other = emptied(w);
     say(w, operation, w->current, other, index, draw(w));
-    say(w, GET, other, 0, index, 0);
+    say(w, JUMPERLOFT1_GET, other, 0, index, 0);
 }
 
 static void grow(writer *w)
 {
     uint8_t other = emptied(w);
-    say(w, PUSH, w->current, other, 0, draw(w));
-    say(w, RELEASE, w->current, 0, 0, 0);
+    say(w, JUMPERLOFT1_PUSH_BACK, w->current, other, 0, draw(w));
+    say(w, JUMPERLOFT1_RELEASE, w->current, 0, 0, 0);
     w->current = other;
 }
 
 static void look(writer *w, uint32_t slot)
 {
-    say(w, LENGTH, slot, 0, 0, 0);
-    say(w, FIRST, slot, 0, 0, 0);
-    say(w, LAST, slot, 0, 0, 0);
-    say(w, COMPARE, w->current, slot, 0, 0);
+    say(w, JUMPERLOFT1_LEN, slot, 0, 0, 0);
+    say(w, JUMPERLOFT1_FIRST, slot, 0, 0, 0);
+    say(w, JUMPERLOFT1_LAST, slot, 0, 0, 0);
+    say(w, JUMPERLOFT1_COMPARE, w->current, slot, 0, 0);
 }
 
 static void step(writer *w)
@@ -75,14 +59,14 @@ static void step(writer *w)
     uint32_t kind = draw(w) % 20, slot = draw(w) % 8, walk = draw(w) % 2;
     uint32_t index = draw(w) % 256 >> draw(w) % 8;
     switch (kind) {
-    case 0: edit(w, NEW, 1 + index % 5); break;
-    case 1: case 2: edit(w, SET, index); break;
-    case 3: edit(w, DROP, index); break;
-    case 4: edit(w, CLONE, index); break;
+    case 0: edit(w, JUMPERLOFT1_NEW, 1 + index % 5); break;
+    case 1: case 2: edit(w, JUMPERLOFT1_SET, index); break;
+    case 3: edit(w, JUMPERLOFT1_DROP_LAST, index); break;
+    case 4: edit(w, JUMPERLOFT1_CLONE, index); break;
     case 5: case 6: look(w, slot); break;
-    case 7: say(w, OPEN, slot, walk, 0, 0); break;
-    case 8: case 9: say(w, NEXT, walk, 0, 0, 0); say(w, NEXT_BACK, walk, 0, 0, 0); break;
-    case 10: say(w, CLOSE, walk, 0, 0, 0); break;
+    case 7: say(w, JUMPERLOFT1_OPEN_WALK, slot, walk, 0, 0); break;
+    case 8: case 9: say(w, JUMPERLOFT1_NEXT, walk, 0, 0, 0); say(w, JUMPERLOFT1_NEXT_BACK, walk, 0, 0, 0); break;
+    case 10: say(w, JUMPERLOFT1_CLOSE_WALK, walk, 0, 0, 0); break;
     case 11: say(w, (uint8_t)(index % 20), slot, draw(w) % 10, draw(w) % 40, draw(w)); break;
     default: grow(w);
     }
@@ -91,30 +75,29 @@ static void step(writer *w)
 // Slot 0 holds what grows from one run to the next.
 static void write_batch(writer *w, int number)
 {
+    const size_t from = w->book->frames;
     if (number == 0)
-        say(w, NEW, 0, 0, 1 + w->seed % 5, 0);
-    while (w->frames + STEP_FRAMES + 2 <= BATCH_FRAMES)
+        say(w, JUMPERLOFT1_NEW, 0, 0, 1 + w->seed % JUMPERLOFT1_MAX_BITS, 0);
+    while (w->book->frames - from + STEP_FRAMES + 2 <= BATCH_FRAMES)
         step(w);
     if (number == BATCHES - 1 && w->current != 0) {
-        say(w, RELEASE, 0, 0, 0, 0);
-        say(w, CLONE, w->current, 0, 0, 0);
+        say(w, JUMPERLOFT1_RELEASE, 0, 0, 0, 0);
+        say(w, JUMPERLOFT1_CLONE, w->current, 0, 0, 0);
     }
 }
 
 __attribute__((visibility("default")))
-int plugin_run(const state *lent, uint8_t party, uint32_t seed, transcript *book)
+int plugin_run(const jumperloft1_state *lent, uint8_t party, uint32_t seed, transcript *book)
 {
-    writer w = { seed | 1, party, 0, 0, 0 };
+    writer w = { seed | 1, party, 0, book };
     for (int number = 0; number < BATCHES; number++) {
-        if (book->room - book->frames < BATCH_FRAMES)
+        const size_t from = book->frames;
+        if (book->room - from < BATCH_FRAMES)
             return -1;
-        w.at = book->requests + FRAME_SIZE * book->frames;
-        w.frames = 0;
         write_batch(&w, number);
-        report r = run_batch(lent, w.at, w.frames, book->answers + ANSWER_SIZE * book->frames);
-        book->frames += w.frames;
-        if (r.number != 0 || r.frames != w.frames)
-            return r.number != 0 ? (int)r.number : -1;
+        const int refused = run_frames(lent, book, from, answer(book, from));
+        if (refused != 0)
+            return refused;
     }
     return 0;
 }

@@ -1,8 +1,4 @@
-// The plug-in of plugin.c in Rust: a seeded sequence of frames of its own party, in several batches on the lent state.
-const NODE_CELLS: usize = 32;
-const SLOTS: usize = 64;
-const WALK_NUMBERS: usize = 96;
-const WALK_LEVELS: usize = 480;
+// The plug-in of plugin.c in Rust, which spells the header by hand: a cdylib exports its own names alone.
 const FRAME_SIZE: usize = 12;
 const ANSWER_SIZE: usize = 6;
 const BATCHES: usize = 3;
@@ -40,8 +36,20 @@ pub struct Report {
 }
 
 #[repr(C)]
-pub struct State {
+pub struct Sizes {
     nodes: usize,
+    used: usize,
+    cells: usize,
+    counts: usize,
+    order: usize,
+    versions: usize,
+    walk_numbers: usize,
+    walk_nodes: usize,
+    walk_indices: usize,
+}
+
+#[repr(C)]
+pub struct State {
     kinds: *mut u8,
     used: *mut u8,
     counts: *mut u32,
@@ -51,6 +59,7 @@ pub struct State {
     walk_numbers: *mut u32,
     walk_nodes: *mut u32,
     walk_indices: *mut i32,
+    sizes: Sizes,
 }
 
 #[repr(C)]
@@ -165,12 +174,12 @@ impl Writer {
     }
 }
 
-// The lent state must be as boundary.h says, and the book have the room that it names.
+// The lent state must be as the header says, and the book have the room that it names.
 unsafe fn run_batch(s: &State, frames: &[u8], answers: *mut u8) -> Report {
-    let n = s.nodes;
+    let n = &s.sizes;
     jumperloft1_batch(
-        s.kinds, n, s.used, n, s.counts, n, s.cells, NODE_CELLS * n, s.order, n, s.versions, SLOTS,
-        s.walk_numbers, WALK_NUMBERS, s.walk_nodes, WALK_LEVELS, s.walk_indices, WALK_LEVELS,
+        s.kinds, n.nodes, s.used, n.used, s.counts, n.counts, s.cells, n.cells, s.order, n.order, s.versions, n.versions,
+        s.walk_numbers, n.walk_numbers, s.walk_nodes, n.walk_nodes, s.walk_indices, n.walk_indices,
         frames.as_ptr(), frames.len(), answers, ANSWER_SIZE * (frames.len() / FRAME_SIZE),
     )
 }
