@@ -1,5 +1,6 @@
-/* A host: lends a state of 256 nodes, makes a list of fonts for party 1, and lets a plug-in edit as party 2.
- * host PLUGIN */
+/* A host: forms a state of 256 nodes, makes a list of fonts for party 1, and lets a plug-in edit as party 2.
+ * host PLUGIN keeps the state and runs the frames that the plug-in writes;
+ * host --lend PLUGIN lends the state to a plug-in that it trusts. */
 #include <jumperloft.h>
 
 #include <dlfcn.h>
@@ -7,8 +8,11 @@
 #include <stdlib.h>
 #include <string.h>
 
-enum { NODES = 256, HOST = 0, AUTHOR = 1, PLUGIN = 2 };
+enum { NODES = 256, HOST = 0, AUTHOR = 1, PLUGIN = 2, PLUGIN_FRAMES = 16 };
 
+/* What a plug-in exports: plugin_write and plugin_read, or, if it is lent the state, plugin_edit. */
+typedef size_t write_function(uint8_t *frames, size_t room); /* returns how many bytes it wrote */
+typedef uint32_t read_function(const uint8_t *answers, size_t count);
 typedef uint32_t edit_function(const jumperloft1_state *state, uint8_t party);
 
 static void stop(const char *why)
@@ -17,15 +21,21 @@ static void stop(const char *why)
     exit(1);
 }
 
+static void run(const jumperloft1_state *state, const uint8_t *frames, size_t count, uint8_t *answers)
+{
+    const size_t bytes = JUMPERLOFT1_FRAME_SIZE * count, room = JUMPERLOFT1_ANSWER_SIZE * count;
+    if (jumperloft1_run(state, frames, bytes, answers, room).number != JUMPERLOFT1_DONE) {
+        stop("the batch was refused");
+    }
+}
+
 /* A batch of one frame. */
 static jumperloft1_answer ask(const jumperloft1_state *state, uint8_t party, uint8_t operation,
     uint8_t slot, uint8_t destination, uint32_t index, uint32_t value)
 {
     uint8_t frame[JUMPERLOFT1_FRAME_SIZE], room[JUMPERLOFT1_ANSWER_SIZE];
     jumperloft1_put_frame(frame, party, operation, slot, destination, index, value);
-    if (jumperloft1_run(state, frame, sizeof frame, room, sizeof room).number != JUMPERLOFT1_DONE) {
-        stop("the batch was refused");
-    }
+    run(state, frame, 1, room);
     return jumperloft1_get_answer(room);
 }
 
@@ -34,23 +44,27 @@ static void print_free_nodes(const jumperloft1_state *state)
     printf("free nodes: %u\n", (unsigned)ask(state, HOST, JUMPERLOFT1_FREE_NODES, 0, 0, 0, 0).value);
 }
 
-/* Prints a slot's list by walk 0 of its party, from the front to the end. */
+/* Prints a slot's list by walk 0 of its party, from the front to the end; all steps in one batch, for each batch audits. */
 static void print_list(const jumperloft1_state *state, uint8_t party, uint8_t slot)
 {
-    const jumperloft1_answer opened = ask(state, party, JUMPERLOFT1_OPEN_WALK, slot, 0, 0, 0);
-    if (opened.number != JUMPERLOFT1_DONE) {
-        printf("party %u, slot %u: number %u\n", party, slot, opened.number);
+    static uint8_t frames[(JUMPERLOFT1_MAX_LENGTH + 2) * JUMPERLOFT1_FRAME_SIZE];
+    static uint8_t room[(JUMPERLOFT1_MAX_LENGTH + 2) * JUMPERLOFT1_ANSWER_SIZE];
+    const jumperloft1_answer length = ask(state, party, JUMPERLOFT1_LEN, slot, 0, 0, 0);
+    if (length.number != JUMPERLOFT1_DONE || length.value > JUMPERLOFT1_MAX_LENGTH) {
+        printf("party %u, slot %u: number %u\n", party, slot, length.number);
         return;
     }
-    printf("party %u, slot %u:", party, slot);
-    for (;;) {
-        const jumperloft1_answer next = ask(state, party, JUMPERLOFT1_NEXT, 0, 0, 0, 0);
-        if (next.number != JUMPERLOFT1_DONE) {
-            break;
-        }
-        printf(" %u", (unsigned)next.value);
+    const size_t steps = length.value;
+    jumperloft1_put_frame(frames, party, JUMPERLOFT1_OPEN_WALK, slot, 0, 0, 0);
+    for (size_t i = 1; i <= steps; i++) {
+        jumperloft1_put_frame(frames + JUMPERLOFT1_FRAME_SIZE * i, party, JUMPERLOFT1_NEXT, 0, 0, 0, 0);
     }
-    ask(state, party, JUMPERLOFT1_CLOSE_WALK, 0, 0, 0, 0);
+    jumperloft1_put_frame(frames + JUMPERLOFT1_FRAME_SIZE * (steps + 1), party, JUMPERLOFT1_CLOSE_WALK, 0, 0, 0, 0);
+    run(state, frames, steps + 2, room);
+    printf("party %u, slot %u:", party, slot);
+    for (size_t i = 1; i <= steps; i++) {
+        printf(" %u", (unsigned)jumperloft1_get_answer(room + JUMPERLOFT1_ANSWER_SIZE * i).value);
+    }
     printf("\n");
 }
 
@@ -71,16 +85,38 @@ static void make_fonts(const jumperloft1_state *state)
     }
 }
 
-static edit_function *load_plugin(const char *path)
+/* ISO C has no cast from a pointer to a function, so it is copied. */
+static void find(void *plugin, const char *name, void *function)
 {
-    void *plugin = dlopen(path, RTLD_NOW | RTLD_LOCAL);
-    void *symbol = plugin == NULL ? NULL : dlsym(plugin, "plugin_edit");
-    edit_function *edit = NULL;
+    void *symbol = dlsym(plugin, name);
     if (symbol == NULL) {
-        stop("there is no plug-in");
+        stop(dlerror());
     }
-    memcpy(&edit, &symbol, sizeof edit); /* ISO C has no cast from a pointer to a function */
-    return edit;
+    memcpy(function, &symbol, sizeof symbol);
+}
+
+/* The plug-in gets no pointer to the state, and its frames bear the party that the host gives them, whatever it wrote. */
+static uint32_t run_frames_of(void *plugin, const jumperloft1_state *state)
+{
+    uint8_t frames[PLUGIN_FRAMES * JUMPERLOFT1_FRAME_SIZE], room[PLUGIN_FRAMES * JUMPERLOFT1_ANSWER_SIZE];
+    write_function *plugin_write;
+    read_function *plugin_read;
+    find(plugin, "plugin_write", &plugin_write);
+    find(plugin, "plugin_read", &plugin_read);
+    const size_t written = plugin_write(frames, sizeof frames);
+    if (written > sizeof frames) {
+        stop("the plug-in says that it wrote more than there is room for");
+    }
+    jumperloft1_set_party(frames, written, PLUGIN);
+    const jumperloft1_report report = jumperloft1_run(state, frames, written, room, sizeof room);
+    return report.number != JUMPERLOFT1_DONE ? report.number : plugin_read(room, JUMPERLOFT1_ANSWER_SIZE * report.frames);
+}
+
+static uint32_t lend_to(void *plugin, const jumperloft1_state *state)
+{
+    edit_function *plugin_edit;
+    find(plugin, "plugin_edit", &plugin_edit);
+    return plugin_edit(state, PLUGIN);
 }
 
 int main(int count, char **words)
@@ -95,9 +131,13 @@ int main(int count, char **words)
     print_list(&state, AUTHOR, 3);
     print_free_nodes(&state);
     if (count > 1) {
-        edit_function *edit = load_plugin(words[1]);
+        const int lends = strcmp(words[1], "--lend") == 0;
+        void *plugin = dlopen(words[count - 1], RTLD_NOW | RTLD_LOCAL);
+        if (plugin == NULL) {
+            stop(dlerror());
+        }
         ask(&state, HOST, JUMPERLOFT1_HAND_OVER, 3, 0, AUTHOR, PLUGIN);
-        printf("plug-in: number %u\n", (unsigned)edit(&state, PLUGIN));
+        printf("plug-in: number %u\n", (unsigned)(lends ? lend_to(plugin, &state) : run_frames_of(plugin, &state)));
         for (uint8_t slot = 0; slot < 5; slot++) {
             print_list(&state, PLUGIN, slot);
         }

@@ -241,6 +241,15 @@ static inline void jumperloft1_put_frame(uint8_t *frame, uint8_t party, uint8_t 
     jumperloft1_put_word(frame + 8, value);
 }
 
+/* Sets the party of every frame in so many bytes of requests, whatever stood there.
+ * A host that keeps its state does this to a plug-in's frames, where the plug-in can't write any more, and runs them. */
+static inline void jumperloft1_set_party(uint8_t *requests, size_t requests_count, uint8_t party)
+{
+    for (size_t at = 0; at < requests_count; at += JUMPERLOFT1_FRAME_SIZE) {
+        requests[at] = party;
+    }
+}
+
 /* Reads the 6 bytes of an answer. */
 static inline jumperloft1_answer jumperloft1_get_answer(const uint8_t *bytes)
 {

@@ -9,7 +9,7 @@ C_CHECKED = -Wall -Wextra -Wpedantic -Werror -Wshadow
 C_FLAGS = -std=c11 -O2 $(C_CHECKED) -Wconversion
 C_PKG = PKG_CONFIG_PATH='$(C_PREFIX)/lib/pkgconfig' pkg-config
 C_LINKED = $$($(C_PKG) --cflags --libs jumperloft)
-MISUSE = tests/c/misuse.c tests/c/refusals.c tests/c/damaged.c tests/c/checks.c tests/c/guarded.c
+MISUSE = tests/c/misuse.c tests/c/refusals.c tests/c/damaged.c tests/c/forged.c tests/c/checks.c tests/c/guarded.c
 # how many damaged states the slow runs lend
 C_SHORT ?= 300
 C_SEED ?= 1
@@ -21,29 +21,29 @@ host-library:
 	@if [ -z '$(HOST_LIBRARY)' ]; then rt staticlib host >target/host.log 2>&1 || { tail -20 target/host.log; exit 1; }; fi
 
 install: host-library
-	@mkdir -p '$(DESTDIR)$(PREFIX)/include' '$(DESTDIR)$(PREFIX)/lib/pkgconfig'
-	@install -m 644 include/jumperloft.h '$(DESTDIR)$(PREFIX)/include/jumperloft.h'
-	@install -m 644 '$(BUILT_LIBRARY)' '$(DESTDIR)$(PREFIX)/lib/libjumperloft.a'
-	@sed 's|@PREFIX@|$(abspath $(PREFIX))|' make/jumperloft.pc.in >'$(DESTDIR)$(PREFIX)/lib/pkgconfig/jumperloft.pc'
-	@echo 'install: $(DESTDIR)$(PREFIX)'
+	@sh make/install.sh '$(BUILT_LIBRARY)' '$(subst ','\'',$(PREFIX))' '$(subst ','\'',$(DESTDIR))'
 
 # installed in target/, for the targets below
 c-prefix:
 	@$(MAKE) --no-print-directory install PREFIX='$(C_PREFIX)' DESTDIR= HOST_LIBRARY='$(HOST_LIBRARY)' >/dev/null
 
-# a host and its plug-in, as examples/README.md compiles them
+# a host and its plug-ins, as examples/README.md compiles them; a forger in the plug-in's place
 examples: c-prefix
 	@$(CC) $(C_FLAGS) examples/host.c $(C_LINKED) -ldl -o $(C_OUT)/host
 	@$(CC) $(C_FLAGS) -shared -fPIC -fvisibility=hidden examples/plugin.c $(C_LINKED) -Wl,--exclude-libs,ALL -o $(C_OUT)/plugin.so
-	@nm -D --defined-only $(C_OUT)/plugin.so | awk '{ print $$3 }' >$(C_OUT)/exports
-	@echo plugin_edit | diff - $(C_OUT)/exports
-	@$(C_OUT)/host ./$(C_OUT)/plugin.so >$(C_OUT)/host.out
-	@diff examples/host.expected $(C_OUT)/host.out
-	@echo 'examples: the host and its plug-in say what they should, and the plug-in exports plugin_edit alone'
+	@nm -D --defined-only $(C_OUT)/plugin.so | awk '{ print $$3 }' | sort >$(C_OUT)/exports
+	@printf 'plugin_edit\nplugin_read\nplugin_write\n' | diff - $(C_OUT)/exports
+	@for way in '' --lend; do $(C_OUT)/host $$way ./$(C_OUT)/plugin.so >$(C_OUT)/host.out && diff examples/host.expected $(C_OUT)/host.out || exit 1; done
+	@echo 'examples: the host and its plug-in say what they should, with the state kept and lent, and the plug-in exports its own calls alone'
+	@$(CC) $(C_FLAGS) -shared -fPIC -fvisibility=hidden tests/c/forger.c $(C_LINKED) -o $(C_OUT)/forger.so
+	@$(C_OUT)/host ./$(C_OUT)/forger.so >$(C_OUT)/host.out && diff tests/c/forger.expected $(C_OUT)/host.out
+	@echo "examples: a plug-in that forges its party gets nowhere"
+	@if $(C_OUT)/host ./no_such_plugin.so >$(C_OUT)/host.out 2>&1 || ! grep -q '^host: .*no_such_plugin.so' $(C_OUT)/host.out; then \
+	echo "examples: FAILED, the loader's error is not printed"; exit 1; fi
 	@if ! command -v cargo >/dev/null 2>&1; then echo 'examples: the plug-in in Rust SKIPPED, there is no cargo on this machine'; \
 	else JUMPERLOFT_LIBRARY='$(abspath $(BUILT_LIBRARY))' RUSTFLAGS='-C link-arg=-Wl,--exclude-libs,ALL' \
 	cargo build --quiet --release --offline --manifest-path examples/plugin_rust/Cargo.toml --target-dir $(C_OUT)/plugin_rust && \
-	$(C_OUT)/host ./$(C_OUT)/plugin_rust/release/libplugin_rust.so >$(C_OUT)/host.out && diff examples/host.expected $(C_OUT)/host.out && \
+	$(C_OUT)/host --lend ./$(C_OUT)/plugin_rust/release/libplugin_rust.so >$(C_OUT)/host.out && diff examples/host.expected $(C_OUT)/host.out && \
 	echo 'examples: the plug-in in Rust makes the same of it'; fi
 
 c-tests: c-prefix
@@ -64,16 +64,10 @@ c-tests: c-prefix
 	else echo 'c-tests: with valgrind' && valgrind --quiet --error-exitcode=1 --leak-check=full --max-stackframe=1048576 \
 	$(C_OUT)/misuse $(C_SHORT) $(C_SEED); fi
 
-# the README's snippet as a newcomer compiles it, in a folder of its own
+# the README's snippet as a newcomer compiles it
 snippet: host-library
 	@sh tests/readme_snippets.sh
-	@folder=$$(mktemp -d) && trap 'rm -rf "$$folder"' EXIT && \
-	$(MAKE) --no-print-directory install PREFIX="$$folder/usr" DESTDIR= HOST_LIBRARY='$(BUILT_LIBRARY)' >/dev/null && \
-	cp docs/snippets/readme.c docs/snippets/readme.expected "$$folder" && cd "$$folder" && \
-	export PKG_CONFIG_PATH="$$folder/usr/lib/pkgconfig" && \
-	$(CC) $(C_FLAGS) readme.c $$(pkg-config --cflags --libs jumperloft) -o readme && \
-	./readme >readme.out && diff readme.expected readme.out && \
-	echo 'snippet: compiled against an installed library, and it says what it should'
+	@sh tests/installed_snippet.sh '$(MAKE)' '$(BUILT_LIBRARY)' $(CC) $(C_FLAGS)
 
 # what the version table costs at the boundary
 bench-table: c-prefix

@@ -30,5 +30,6 @@ extern const uint8_t session[12 * SESSION_FRAMES];
 void refusals(side where);
 void random_requests(unsigned long batches);
 void damaged_states(unsigned long states);
+void forged_parties(unsigned long batches);
 
 #endif

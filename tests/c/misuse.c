@@ -157,5 +157,6 @@ int main(int count, char **words)
     say("nothing lent, unwritten memory");
     random_requests(states / 10);
     damaged_states(states);
+    forged_parties(states / 20 + 5);
     return finish("misuse");
 }
