@@ -50,7 +50,7 @@ c-tests: c-prefix
 	@sh tests/c/symbols.sh '$(C_PREFIX)/lib/libjumperloft.a'
 	@$(CC) -std=c11 $(C_CHECKED) tests/c/header.c $(C_LINKED) -o $(C_OUT)/header_c && $(C_OUT)/header_c
 	@$(CXX) -x c++ -std=c++17 $(C_CHECKED) tests/c/header.c -x none $(C_LINKED) -o $(C_OUT)/header_cxx && $(C_OUT)/header_cxx
-	@$(CC) $(C_FLAGS) tests/c/stack.c $(C_LINKED) -pthread -o $(C_OUT)/stack && $(C_OUT)/stack
+	@$(CC) $(C_FLAGS) tests/c/stack.c $(C_LINKED) -pthread -o $(C_OUT)/stack && $(C_OUT)/stack README.md include/jumperloft.h
 	@$(CC) $(C_FLAGS) tests/c/replay.c $(C_LINKED) -o $(C_OUT)/replay && for lines in oracle/recorded/session-*.lines; do \
 	$(C_OUT)/replay $$lines $${lines%.lines}.answers || exit 1; done
 	@mkdir -p $(C_OUT)/objects && for file in $(MISUSE); do \
