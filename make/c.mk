@@ -47,9 +47,11 @@ examples: c-prefix
 	echo 'examples: the plug-in in Rust makes the same of it'; fi
 
 c-tests: c-prefix
-	@sh tests/c/symbols.sh '$(C_PREFIX)/lib/libjumperloft.a'
+	@sh tests/c/symbols.sh '$(C_PREFIX)/lib/libjumperloft.a' $(C_OUT) $(CC) $(C_FLAGS) -Iinclude
+	@sh tests/c/number_table.sh include/jumperloft.h crates/number_table/stdout $(C_OUT) $(CC) $(C_FLAGS) -Iinclude
 	@$(CC) -std=c11 $(C_CHECKED) tests/c/header.c $(C_LINKED) -o $(C_OUT)/header_c && $(C_OUT)/header_c
 	@$(CXX) -x c++ -std=c++17 $(C_CHECKED) tests/c/header.c -x none $(C_LINKED) -o $(C_OUT)/header_cxx && $(C_OUT)/header_cxx
+	@$(CC) $(C_FLAGS) tests/c/inline.c tests/c/noting.c tests/c/checks.c tests/c/guarded.c -Iinclude -o $(C_OUT)/inline && $(C_OUT)/inline
 	@$(CC) $(C_FLAGS) tests/c/stack.c $(C_LINKED) -pthread -o $(C_OUT)/stack && $(C_OUT)/stack README.md include/jumperloft.h
 	@$(CC) $(C_FLAGS) tests/c/replay.c $(C_LINKED) -o $(C_OUT)/replay && for lines in oracle/recorded/session-*.lines; do \
 	$(C_OUT)/replay $$lines $${lines%.lines}.answers || exit 1; done

@@ -38,7 +38,7 @@ size_t *count_of(jumperloft1_sizes_of *n, int which)
     return all[which];
 }
 
-static size_t bytes_of(int which, jumperloft1_sizes_of n, size_t requests, size_t room)
+size_t slice_bytes(int which, jumperloft1_sizes_of n, size_t requests, size_t room)
 {
     static const size_t element[LENT] = {1, 1, 4, 4, 4, sizeof(jumperloft1_version), 4, 4, 4};
     return which == REQUESTS ? requests : which == ROOM ? room : element[which] * *count_of(&n, which);
@@ -49,7 +49,7 @@ void lend_anew(loan *lent, jumperloft1_sizes_of n, size_t requests, size_t room,
     lent->bytes = 0;
     for (int i = 0; i < SLICES; i++) {
         slice *s = &lent->slices[i];
-        s->size = bytes_of(i, n, requests, room);
+        s->size = slice_bytes(i, n, requests, room);
         s->data = s->size == 0 ? NULL : where == AT_START ? s->pages : s->pages + (s->pages_size - s->size);
         lent->bytes += s->size;
     }
@@ -69,7 +69,7 @@ loan lend_sizes(jumperloft1_sizes_of n, size_t requests, size_t room, side where
 {
     loan lent;
     for (int i = 0; i < SLICES; i++) {
-        lent.slices[i] = guard(bytes_of(i, n, requests, room));
+        lent.slices[i] = guard(slice_bytes(i, n, requests, room));
     }
     lend_anew(&lent, n, requests, room, where);
     return lent;

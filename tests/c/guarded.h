@@ -31,6 +31,8 @@ void give_back(loan *lent);
 
 /* The member of sizes that a slice has, by its place in the order of the arguments. */
 size_t *count_of(jumperloft1_sizes_of *sizes, int which);
+/* How many bytes it has. */
+size_t slice_bytes(int which, jumperloft1_sizes_of sizes, size_t requests, size_t room);
 
 void read_only(const loan *lent);
 void writable(const loan *lent);
