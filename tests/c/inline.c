@@ -1,9 +1,11 @@
 /* The header's inline functions at the edges of every argument, over calls that only note what they are handed. */
+#define _DEFAULT_SOURCE
 #include "checks.h"
 #include "noting.h"
 
 #include <stdlib.h>
 #include <string.h>
+#include <unistd.h>
 
 static const uint32_t edges[] = {0, 1, 0x7F, 0x80, 0xFF, 0x100, 0xFFFF, 0x10000, 0x10001, 0xFFFFFF, 0x1000000, 0x1000001,
     0x01020304, 0x7FFFFFFF, 0x80000000, 0xF0E1D2C3, 0xFFFFFFFF};
@@ -154,6 +156,24 @@ static void handed_over(jumperloft1_sizes_of sizes, size_t requests, size_t room
     give_back(&lent);
 }
 
+/* Counts that no memory has: none is cut short on its way. */
+static void greatest_counts(void)
+{
+    jumperloft1_state state;
+    memset(&state, 0, sizeof state);
+    for (int i = 0; i < LENT; i++) {
+        *count_of(&state.sizes, i) = SIZE_MAX - (size_t)i;
+    }
+    for (int batch = 0; batch < 2; batch++) {
+        at_work_on("greatest counts", (unsigned long)batch);
+        const jumperloft1_report report = batch ? jumperloft1_run(&state, NULL, SIZE_MAX - REQUESTS, NULL, SIZE_MAX - ROOM) : jumperloft1_form_state(&state);
+        want(reports(report, told.number, told.frames), "the report is the library's");
+        for (int i = 0; i < (batch ? SLICES : LENT); i++) {
+            want(last_handed.slices[i] == NULL && last_handed.counts[i] == SIZE_MAX - (size_t)i, "a count is handed over whole");
+        }
+    }
+}
+
 /* No two alike. */
 static jumperloft1_sizes_of distinct(size_t nodes)
 {
@@ -175,6 +195,7 @@ int main(void)
 {
     static const size_t nodes[] = {1, 2, 3, 255, 256, 4096, JUMPERLOFT1_MAX_NODES};
     catch_faults();
+    alarm(20); /* where a loop of the header's has no end */
     frames();
     answers();
     parties();
@@ -184,5 +205,6 @@ int main(void)
         handed_over(plain(nodes[i]), 12, 6);
         handed_over(distinct(nodes[i]), 12 * nodes[i] + 1, 6 * nodes[i] - 1);
     }
+    greatest_counts();
     return finish("inline: frames, answers, parties, blocks, what is handed over");
 }
