@@ -3,9 +3,11 @@ JUMPERLOFT_ORIGINAL ?= $(abspath ../shared/docs/src/src/vector/mod.rs)
 export JUMPERLOFT_ORIGINAL
 JUDGE = cargo run --quiet --release --offline -p judge --
 SESSION = cargo run --quiet --release --offline -p session --
-# the driver holds our code against the original where its text is at hand, and against its recorded answers where it isn't
+# for programs that link the host's library
+CARGO_WITH_LIBRARY = JUMPERLOFT_HOST_LIBRARY='$(abspath $(BUILT_LIBRARY))' cargo
+# `drive` holds it against the original where its text is at hand, and against its recorded answers where it isn't
 WITH_ORIGINAL = $(if $(wildcard $(JUMPERLOFT_ORIGINAL)),--features original)
-DRIVE = cargo run --quiet --release --offline -p drive $(WITH_ORIGINAL) --
+DRIVE = $(CARGO_WITH_LIBRARY) run --quiet --release --offline -p drive $(WITH_ORIGINAL) --
 PROGRAM = target/bin/jumperloft
 BUILD_PROGRAM = mkdir -p target; rt check jumperloft >target/program.log 2>&1 || { tail -20 target/program.log >&2; exit 1; }
 # what `make run` feeds the program: document 01's example, or another file of lines
@@ -30,12 +32,12 @@ test: format
 	@log=$$(mktemp) && trap 'rm -f "$$log"' EXIT && rt ci 2>&1 | tee "$$log" && tail -n 1 "$$log" | grep -qx '[0-9]* passed, 0 failed' && \
 	$(MAKE) --no-print-directory built && tail -n 1 "$$log"
 
-# all that runs what is built, in two rows at a time: what calls rt, and what links the host's library
+# all that runs what is built, in two rows at a time; one has all that calls rt
 built: host-library
 	@$(MAKE) --no-print-directory -j2 --output-sync=recurse built-by-rt built-with-library
 
 built-by-rt:
-	@$(MAKE) --no-print-directory -j1 oracle kinds drive program
+	@$(MAKE) --no-print-directory -j1 HOST_LIBRARY='$(BUILT_LIBRARY)' oracle kinds drive program
 
 built-with-library:
 	@$(MAKE) --no-print-directory -j1 HOST_LIBRARY='$(BUILT_LIBRARY)' boundary c-tests fuzz-short examples snippet rust-binding plugins
@@ -51,13 +53,12 @@ kinds:
 oracle:
 	@if ! command -v cargo >/dev/null 2>&1; then echo 'oracle: SKIPPED, there is no cargo on this machine'; \
 	elif ! [ -f "$$JUMPERLOFT_ORIGINAL" ]; then echo "oracle: SKIPPED, the original's text is not at $$JUMPERLOFT_ORIGINAL"; \
-	else cd oracle && cargo test --quiet --offline -p archery -p formulas -p judge -p session && $(JUDGE) costs && $(JUDGE) recorded recorded && $(SESSION) recorded recorded; fi
+	else cd oracle && cargo test --quiet --offline -p archery -p formulas -p frames -p judge -p session && $(JUDGE) costs && $(JUDGE) recorded recorded && $(SESSION) recorded recorded; fi
 
-# our code, compiled, against the original or its recorded answers; our audit against a plain one over damaged states
-drive:
+# the exported calls against the original or its recorded answers; the audit against a plain one over damaged states
+drive: host-library
 	@if ! command -v cargo >/dev/null 2>&1; then echo 'drive: SKIPPED, there is no cargo on this machine'; \
-	else mkdir -p target; rt staticlib trial >target/staticlib.log 2>&1 || { tail -20 target/staticlib.log; exit 1; }; \
-	cd oracle && $(DRIVE) edits && $(DRIVE) walks && $(DRIVE) compare && $(DRIVE) audit --states 200000 --seed 1; fi
+	else cd oracle && $(CARGO_WITH_LIBRARY) test --quiet --release --offline -p drive $(WITH_ORIGINAL) && $(DRIVE) edits && $(DRIVE) walks && $(DRIVE) compare && $(DRIVE) audit --states 200000 --seed 1; fi
 
 # the program's answers to the recorded sessions, then all that `session program` tries, against the original
 program:
@@ -71,13 +72,11 @@ program:
 soak: soak-audit soak-boundary soak-sequences soak-lengths soak-week
 
 # two million damaged states
-soak-audit:
-	@mkdir -p target; rt staticlib trial >target/staticlib.log 2>&1 || { tail -20 target/staticlib.log; exit 1; }
+soak-audit: host-library
 	@cd oracle && $(DRIVE) audit --states 2000000 --seed $(SOAK_SEED)
 
 # the figures of docs/SPEED.md
-bench-audit:
-	@mkdir -p target; rt staticlib trial >target/staticlib.log 2>&1 || { tail -20 target/staticlib.log; exit 1; }
+bench-audit: host-library
 	@cd oracle && $(DRIVE) bench-audit
 
 bench-program:
@@ -85,7 +84,7 @@ bench-program:
 	@cd oracle && $(SESSION) mix 3000000 >../target/mix.lines && $(SESSION) bench ../$(PROGRAM) ../target/mix.lines
 
 # writes the recorded answers and sessions anew
-record:
+record: host-library
 	@cd oracle && $(JUDGE) record recorded && $(SESSION) record recorded && $(DRIVE) record recorded
 
 include make/c.mk make/rust.mk make/plugins.mk make/boundary.mk make/fuzz.mk

@@ -1,5 +1,5 @@
 # The host's library, through its C functions, against the model made of the original's vectors.
-BOUNDARY = JUMPERLOFT_HOST_LIBRARY='$(abspath $(BUILT_LIBRARY))' cargo run --quiet --release --offline -p boundary --
+BOUNDARY = $(CARGO_WITH_LIBRARY) run --quiet --release --offline -p boundary --
 # says why the target $@ is skipped, or goes on
 BOUNDARY_SKIPPED = if ! command -v cargo >/dev/null 2>&1; then echo '$@: SKIPPED, there is no cargo on this machine'; \
 	elif ! [ -f "$$JUMPERLOFT_ORIGINAL" ]; then echo "$@: SKIPPED, the original's text is not at $$JUMPERLOFT_ORIGINAL"

@@ -1,11 +1,11 @@
 //! Frames of eight parties around lists of one length: edits that cross it, reads at its edges, steps of walks that stay open.
 
-use crate::scenes::LIST;
 use formulas::{degree, height};
+use frames::grown::LIST;
+use frames::numbers::*;
+use frames::rng::Rng;
+use frames::Frame;
 use session::choice;
-use session::frame::Frame;
-use session::numbers::*;
-use session::rng::Rng;
 use session::state::State;
 
 /// The walk of each party that is opened on the list first and never closed.

@@ -1,11 +1,11 @@
 //! Frames of eight parties, chosen from what is live in the model: lists grown long, edited until nodes are short, walked, and cleared.
 
 use formulas::LENGTH_LIMIT;
+use frames::numbers::*;
+use frames::rng::Rng;
+use frames::Frame;
 use session::choice;
-use session::frame::Frame;
 use session::make::any_frame;
-use session::numbers::*;
-use session::rng::Rng;
 use session::state::State;
 
 /// Frames that go on after a list has its length.

@@ -1,9 +1,10 @@
 //! The calls that are tried on a scene, with their charges.
 
-use crate::scenes::{frame, hand_over, set, Scene, CLONED, EMPTY, LIST};
+use crate::scenes::{frame, hand_over, set, Scene, CLONED, EMPTY};
 use formulas::{drop_charge, push_charge, set_charge, NEW_CHARGE};
-use session::frame::Frame;
-use session::numbers::*;
+use frames::grown::LIST;
+use frames::numbers::*;
+use frames::Frame;
 
 pub struct Call {
     pub frame: Frame,

@@ -1,12 +1,12 @@
 //! `boundary differences`: the smallest inputs of docs/DIFFERENCES.md, on our side and on the original's.
 
-use crate::ffi;
-use crate::pair::{formed, ANSWER_SIZE};
-use crate::scenes::{frame, grown, PARTY};
+use crate::scenes::{frame, PARTY};
 use formulas::LENGTH_LIMIT;
+use frames::grown::grown;
+use frames::numbers::*;
+use frames::{Answer, Frame};
+use lent::Lent;
 use original::Vector;
-use session::frame::Frame;
-use session::numbers::*;
 use std::panic::{catch_unwind, set_hook, take_hook, UnwindSafe};
 
 const DEFAULT_BITS: u32 = 5;
@@ -153,12 +153,8 @@ fn one_push_beyond_the_limit() -> Vec<Frame> {
 
 /// Every frame before it must be done.
 fn answer_to_last(nodes: usize, frames: &[Frame]) -> u8 {
-    let requests: Vec<u8> = frames.iter().flat_map(Frame::bytes).collect();
-    let mut room = vec![0; ANSWER_SIZE * frames.len()];
-    let mut lent = formed(nodes);
-    let report = ffi::batch(&mut lent, &requests, &mut room);
-    assert_eq!(report.number, 0, "the batch runs");
-    let numbers: Vec<u8> = room.chunks(ANSWER_SIZE).map(|answer| answer[0]).collect();
+    let answers = Lent::formed(nodes).serve(frames).expect("the batch runs");
+    let numbers: Vec<u8> = answers.iter().map(|answer| answer.number).collect();
     let (last, before) = numbers.split_last().expect("there is a frame");
     assert!(before.iter().all(|number| *number == DONE), "{numbers:?}");
     *last
@@ -166,16 +162,14 @@ fn answer_to_last(nodes: usize, frames: &[Frame]) -> u8 {
 
 /// The original makes the stack of that end.
 fn an_ended_walk_stores_nothing() -> bool {
-    let mut lent = formed(1);
-    let mut serve = |frames: &[Frame]| {
-        let requests: Vec<u8> = frames.iter().flat_map(Frame::bytes).collect();
-        let mut room = vec![0; ANSWER_SIZE * frames.len()];
-        ffi::batch(&mut lent, &requests, &mut room);
-        (lent.clone(), room[room.len() - ANSWER_SIZE])
-    };
-    let (before, opened) = serve(&[new(DEFAULT_BITS, 0), frame(OPEN_WALK, 0, 0)]);
-    let (after, stepped) = serve(&[frame(NEXT, 0, 0)]);
-    (opened, stepped) == (DONE, NOTHING_THERE) && before == after
+    let mut lent = Lent::formed(1);
+    let opened = lent.serve(&[new(DEFAULT_BITS, 0), frame(OPEN_WALK, 0, 0)]);
+    let before = lent.clone();
+    let stepped = lent.serve(&[frame(NEXT, 0, 0)]);
+    let done = [Answer::done(1, 0), Answer::done(0, 0)];
+    opened == Ok(done.into())
+        && stepped == Ok(vec![Answer::refused(NOTHING_THERE)])
+        && lent == before
 }
 
 /// A shift is too large: an overflow check finds it, and without one the second element takes the place of the first.

@@ -1,20 +1,17 @@
 //! `boundary differential`: random sessions in batches, answered byte for byte as the model does.
 
 use crate::author::Author;
-use crate::ffi::{self, Report};
-use crate::pair::{Disagreement, Pair, ANSWER_SIZE, FRAME_SIZE};
+use crate::pair::{Disagreement, Pair};
+use frames::numbers::*;
+use frames::rng::Rng;
+use frames::{Answer, Frame, ANSWER_SIZE, FRAME_SIZE};
+use lent::ffi::{self, Report};
 use lent::SLICES;
-use session::frame::{Answer, Frame};
-use session::numbers::*;
-use session::rng::Rng;
 
 const LARGEST_BATCH: usize = 200;
 const NUMBERS: usize = NO_NODES as usize + 1;
 /// A run that is shorter has no lists of the greatest length.
 const FRAMES_WITH_FULL_LISTS: usize = 1_000_000;
-const ILL_FORMED: u32 = 11;
-const NO_ROOM: u32 = 12;
-const RAGGED: u32 = 13;
 
 #[derive(Clone, Copy)]
 enum Lists {
@@ -185,7 +182,10 @@ impl Session {
         };
         let (before, room_before) = (lent.clone(), room.clone());
         let report = ffi::batch(&mut lent, &requests, &mut room);
-        let refused = |number| Report { number, frames: 0 };
+        let refused = |number: u8| Report {
+            number: number.into(),
+            frames: 0,
+        };
         let forms_too = ill_sized && ffi::form(&mut lent) != refused(ILL_FORMED);
         if report != refused(number) || lent != before || room != room_before || forms_too {
             let told = format!("to be refused with {number}: {report:?}, or it wrote, or formed");

@@ -1,11 +1,11 @@
 //! One editor's versions of a list that another party owns: each edit fills the other of two slots, and its source is released.
 
-use crate::scenes::{frame_of, LIST};
 use formulas::LENGTH_LIMIT;
+use frames::grown::LIST;
+use frames::numbers::*;
+use frames::rng::Rng;
+use frames::Frame;
 use session::choice;
-use session::frame::Frame;
-use session::numbers::*;
-use session::rng::Rng;
 
 pub struct Edited {
     owner: u8,
@@ -32,15 +32,11 @@ impl Edited {
     }
 
     pub fn handed_over(&self) -> Frame {
-        Frame {
-            index: u32::from(self.owner),
-            value: u32::from(self.editor),
-            ..frame_of(HOST, HAND_OVER, LIST, self.slots[0])
-        }
+        Frame::hand_over((self.owner, LIST), (self.editor, self.slots[0]))
     }
 
     pub fn release(&self) -> Frame {
-        frame_of(self.editor, RELEASE, self.slots[0], 0)
+        Frame::of(self.editor, RELEASE, self.slots[0], 0)
     }
 
     /// Lets the version go and takes the owner's again.
@@ -64,7 +60,7 @@ impl Edited {
         let edit = Frame {
             index: rng.below(self.length.max(1) as usize) as u32,
             value: choice::value(rng),
-            ..frame_of(self.editor, operation, from, to)
+            ..Frame::of(self.editor, operation, from, to)
         };
         let release = self.release();
         self.slots = [to, from];

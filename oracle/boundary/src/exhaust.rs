@@ -4,9 +4,9 @@ use crate::calls::{calls, Call};
 use crate::pair::{Disagreement, Pair};
 use crate::scenes::{frame, Scene, ALL_BESIDE};
 use formulas::{degree, BITS};
+use frames::numbers::*;
+use frames::{Answer, Frame};
 use lent::Lent;
-use session::frame::{Answer, Frame};
-use session::numbers::*;
 use session::state::State;
 
 /// Above every charge and every need of a scene.

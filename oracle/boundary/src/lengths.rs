@@ -2,12 +2,12 @@
 
 use crate::around::{Around, KEPT_WALK};
 use crate::pair::{Disagreement, Pair};
-use crate::scenes::{frame_of, grown, LIST};
 use formulas::{degree, height, nodes, BITS, LENGTH_LIMIT};
+use frames::grown::{grown, LIST};
+use frames::numbers::*;
+use frames::rng::Rng;
+use frames::{Answer, Frame};
 use session::choice;
-use session::frame::{Answer, Frame};
-use session::numbers::*;
-use session::rng::Rng;
 use std::collections::BTreeSet;
 
 const FRAMES: usize = 1_200;
@@ -135,7 +135,7 @@ impl Stay {
     fn walk_to_the_end(&mut self, count: &mut Count) -> Result<(), Disagreement> {
         let rng = &mut self.around.rng;
         let party = rng.byte_below(PARTIES);
-        let mut step = || frame_of(party, rng.of(&[NEXT, NEXT_BACK]), KEPT_WALK, 0);
+        let mut step = || Frame::of(party, rng.of(&[NEXT, NEXT_BACK]), KEPT_WALK, 0);
         let steps: Vec<Frame> = (0..=self.around.length).map(|_| step()).collect();
         let answers = self.pair.serve(&steps)?;
         count.add(&steps, &answers);
@@ -151,9 +151,9 @@ impl Stay {
         let state = &self.pair.model;
         let mut frames = Vec::new();
         for party in 0..PARTIES {
-            let close = |walk| frame_of(party, CLOSE_WALK, walk, 0);
+            let close = |walk| Frame::of(party, CLOSE_WALK, walk, 0);
             frames.extend(choice::walks(state, party, true).into_iter().map(close));
-            let release = |slot| frame_of(party, RELEASE, slot, 0);
+            let release = |slot| Frame::of(party, RELEASE, slot, 0);
             frames.extend(choice::slots(state, party, true).into_iter().map(release));
         }
         let answers = self.pair.serve(&frames)?;
@@ -177,12 +177,8 @@ impl Stay {
 
 /// The host's list goes to every other party, and each of the eight opens its walk.
 fn handed_out() -> impl Iterator<Item = Frame> {
-    let hand_over = |party| Frame {
-        index: u32::from(HOST),
-        value: u32::from(party),
-        ..frame_of(HOST, HAND_OVER, LIST, LIST)
-    };
-    let open = |party| frame_of(party, OPEN_WALK, LIST, KEPT_WALK);
+    let hand_over = |party| Frame::hand_over((HOST, LIST), (party, LIST));
+    let open = |party| Frame::of(party, OPEN_WALK, LIST, KEPT_WALK);
     (1..PARTIES).map(hand_over).chain((0..PARTIES).map(open))
 }
 

@@ -8,7 +8,6 @@ mod differences;
 mod differential;
 mod edited;
 mod exhaust;
-mod ffi;
 mod lengths;
 mod pair;
 mod scenes;

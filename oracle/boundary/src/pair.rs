@@ -1,15 +1,13 @@
 //! A lent state behind the C boundary and the model beside it, served the same frames.
 
-use crate::ffi::{self, Report};
+use frames::numbers::{PARTIES, SLOTS, WALKS};
+use frames::{Answer, Frame, ANSWER_SIZE};
+use lent::ffi::{self, Report};
 use lent::Lent;
 use original::vector::probe;
-use session::frame::{Answer, Frame};
-use session::numbers::{PARTIES, SLOTS, WALKS};
 use session::places::Place;
 use session::state::State;
 
-pub const FRAME_SIZE: usize = 12;
-pub const ANSWER_SIZE: usize = 6;
 /// What answer room holds before a batch.
 const UNTOUCHED: u8 = 0x5A;
 
@@ -27,7 +25,7 @@ pub struct Disagreement {
 impl Pair {
     pub fn fresh(nodes: usize) -> Pair {
         Pair {
-            lent: formed(nodes),
+            lent: Lent::formed(nodes),
             model: State::fresh(nodes),
         }
     }
@@ -122,17 +120,6 @@ impl Pair {
         }
         Ok(())
     }
-}
-
-pub fn formed(nodes: usize) -> Lent {
-    let mut lent = Lent::unformed(nodes);
-    let report = ffi::form(&mut lent);
-    let done = Report {
-        number: 0,
-        frames: 0,
-    };
-    assert_eq!(report, done, "a state of {nodes} nodes is formed");
-    lent
 }
 
 impl Disagreement {

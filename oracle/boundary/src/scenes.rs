@@ -1,10 +1,10 @@
 //! Small states to call on: one list of party 1, with others, walks or neither beside it.
 
-use session::frame::Frame;
-use session::numbers::*;
+use frames::grown::{grown, LIST};
+use frames::numbers::*;
+use frames::Frame;
 
 pub const PARTY: u8 = 1;
-pub const LIST: u8 = 0;
 const OTHER: u8 = 1;
 pub const CLONED: u8 = 2;
 const SET_LAST: u8 = 3;
@@ -43,17 +43,7 @@ pub struct Scene {
 }
 
 pub fn frame(operation: u8, slot: u8, destination: u8) -> Frame {
-    frame_of(PARTY, operation, slot, destination)
-}
-
-pub fn frame_of(party: u8, operation: u8, slot: u8, destination: u8) -> Frame {
-    Frame {
-        party,
-        operation,
-        slot,
-        destination,
-        ..Frame::default()
-    }
+    Frame::of(PARTY, operation, slot, destination)
 }
 
 pub fn set(slot: u8, destination: u8, index: u32) -> Frame {
@@ -66,17 +56,7 @@ pub fn set(slot: u8, destination: u8, index: u32) -> Frame {
 
 /// The list goes to a slot of the same number.
 pub fn hand_over(to: u8) -> Frame {
-    Frame {
-        party: HOST,
-        index: u32::from(PARTY),
-        value: u32::from(to),
-        ..frame(HAND_OVER, LIST, LIST)
-    }
-}
-
-/// What a grown list has at an index.
-pub fn element(index: u32) -> u32 {
-    index.wrapping_mul(0x9e37_79b9)
+    Frame::hand_over((PARTY, LIST), (to, LIST))
 }
 
 impl Scene {
@@ -116,26 +96,4 @@ impl Scene {
         }
         frames
     }
-}
-
-/// A list of a party pushed to from slot to slot, so that it ends in the first; each source is released.
-pub fn grown(party: u8, bits: u32, length: u32) -> Vec<Frame> {
-    let own = |operation, slot, destination| frame_of(party, operation, slot, destination);
-    let (mut from, mut to) = match length % 2 {
-        0 => (LIST, OTHER),
-        _ => (OTHER, LIST),
-    };
-    let mut frames = vec![Frame {
-        index: bits,
-        ..own(NEW, 0, from)
-    }];
-    for number in 0..length {
-        frames.push(Frame {
-            value: element(number),
-            ..own(PUSH_BACK, from, to)
-        });
-        frames.push(own(RELEASE, from, 0));
-        (from, to) = (to, from);
-    }
-    frames
 }

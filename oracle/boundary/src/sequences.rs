@@ -1,10 +1,10 @@
 //! `boundary sequences`: every sequence of a few calls over a small alphabet, on 8 nodes.
 
-use crate::pair::{formed, Disagreement, Pair};
+use crate::pair::{Disagreement, Pair};
 use crate::scenes::frame;
+use frames::numbers::*;
+use frames::{Answer, Frame};
 use lent::Lent;
-use session::frame::{Answer, Frame};
-use session::numbers::*;
 use session::state::State;
 
 const NODES: usize = 8;
@@ -137,7 +137,7 @@ impl Tree {
         let Beginning { frames, whole, .. } = beginning;
         let letters = self.alphabet.len();
         let count = letters.pow(*whole as u32);
-        let fresh = formed(NODES);
+        let fresh = Lent::formed(NODES);
         let mut lent = fresh.clone();
         for number in 0..count {
             self.sequence.clone_from(frames);

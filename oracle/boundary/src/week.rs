@@ -2,11 +2,11 @@
 
 use crate::edited::Edited;
 use crate::pair::{Disagreement, Pair};
-use crate::scenes::{element, frame_of, grown, LIST};
 use formulas::BITS;
-use session::frame::{Answer, Frame};
-use session::numbers::*;
-use session::rng::Rng;
+use frames::grown::{element, grown, LIST};
+use frames::numbers::*;
+use frames::rng::Rng;
+use frames::{Answer, Frame};
 use std::collections::VecDeque;
 use std::time::{Duration, Instant};
 
@@ -71,7 +71,7 @@ impl Week {
         self.at_first = self.free_nodes()?;
         self.edits(edits / 2, true)?;
         // from here on the walks alone hold what they walk
-        let releases = BITS.map(|owner| frame_of(owner as u8, RELEASE, LIST, 0));
+        let releases = BITS.map(|owner| Frame::of(owner as u8, RELEASE, LIST, 0));
         self.serve(&releases.collect::<Vec<Frame>>())?;
         self.edits(edits - edits / 2, false)?;
         self.pair.hold_contents()?;
@@ -94,7 +94,7 @@ impl Week {
     fn own(&mut self, bits: u32) -> Result<(), Disagreement> {
         let (owner, length) = (bits as u8, LENGTHS[bits as usize - 1]);
         let mut frames = grown(owner, bits, length);
-        frames.extend((0..WALKS).map(|number| frame_of(owner, OPEN_WALK, LIST, number)));
+        frames.extend((0..WALKS).map(|number| Frame::of(owner, OPEN_WALK, LIST, number)));
         self.serve(&frames)?;
         for number in 0..WALKS {
             let left = (0..length).map(element).collect();
@@ -143,7 +143,7 @@ impl Week {
 
     /// As the host is answered.
     fn free_nodes(&mut self) -> Result<usize, Disagreement> {
-        let answers = self.serve(&[frame_of(HOST, FREE_NODES, 0, 0)])?;
+        let answers = self.serve(&[Frame::of(HOST, FREE_NODES, 0, 0)])?;
         Ok(answers[0].value as usize)
     }
 
@@ -158,7 +158,7 @@ impl Week {
         for _ in 0..steps {
             let forward = self.rng.one_in(2);
             let operation = if forward { NEXT } else { NEXT_BACK };
-            frames.push(frame_of(*owner, operation, *number, 0));
+            frames.push(Frame::of(*owner, operation, *number, 0));
             wanted.push(if forward {
                 left.pop_front()
             } else {
@@ -183,7 +183,7 @@ impl Week {
             self.steps(walk, left)?;
             steps += left;
             let Walk { owner, number, .. } = self.walks[walk];
-            let beyond = [NEXT, NEXT_BACK].map(|step| frame_of(owner, step, number, 0));
+            let beyond = [NEXT, NEXT_BACK].map(|step| Frame::of(owner, step, number, 0));
             let answers = self.pair.serve(&beyond)?;
             if answers.iter().any(|answer| answer.number != NOTHING_THERE) {
                 return wrong(String::from("an ended walk goes on"));
@@ -195,7 +195,7 @@ impl Week {
     /// Then every node is free.
     fn let_all_go(&mut self) -> Result<(), Disagreement> {
         let mut frames: Vec<Frame> = self.edited.iter().map(Edited::release).collect();
-        let close = |walk: &Walk| frame_of(walk.owner, CLOSE_WALK, walk.number, 0);
+        let close = |walk: &Walk| Frame::of(walk.owner, CLOSE_WALK, walk.number, 0);
         frames.extend(self.walks.iter().map(close));
         self.serve(&frames)?;
         match self.free_nodes()? {

@@ -1,13 +1,12 @@
-//! `drive bench-audit`: our audit beside a plain copy of the same memory, in one run.
+//! `drive bench-audit`: our audit, as an empty batch, beside a plain copy of the same memory, in one run.
 
-use crate::ffi;
 use crate::hostile::{cycles, scattered};
-use crate::ours::Ours;
-use crate::plain_audit;
-use crate::state::State;
-use crate::subject::{element, fill};
+use crate::verdict::judge;
 use formulas::LENGTH_LIMIT;
-use lent::{Lent, SLOTS, WALKS};
+use frames::grown::{element, grown, LIST};
+use frames::numbers::*;
+use frames::Frame;
+use lent::{ffi, Lent};
 use std::hint::black_box;
 use std::time::{Duration, Instant};
 
@@ -29,61 +28,81 @@ const HOSTILE: [(usize, u32, u32); 8] = [
 /// Prints a line for each state and answers whether both audits judge each alike.
 pub fn bench_audit() -> bool {
     let mut agree = true;
-    let mut line = |name: &str, lent: &Lent| agree &= bench(name, lent);
+    let mut line = |name: &str, lent: Lent| agree &= bench(name, lent);
     for bits in [5, 1] {
         let name = format!("65,536 nodes, 64 versions that share a list, bits {bits}");
-        line(&name, shared(POOL, bits, LENGTH_LIMIT).lent());
+        line(&name, shared(POOL, bits, LENGTH_LIMIT));
         let name = format!("65,536 nodes, one list of 32,768, bits {bits}");
-        line(&name, list(POOL, bits, LENGTH_LIMIT).lent());
+        line(&name, list(POOL, bits, LENGTH_LIMIT));
     }
     let name = "256 nodes, 64 versions that share a list of 500, bits 5";
-    line(name, shared(256, 5, 500).lent());
+    line(name, shared(256, 5, 500));
     let name = "256 nodes, 64 versions and 16 walks of a binary list of 200";
-    line(name, walked(256, 1, 200).lent());
+    line(name, walked(256, 1, 200));
     for nodes in [1, 256, POOL] {
-        line(&format!("{nodes} nodes, fresh"), &Lent::fresh(nodes));
+        line(&format!("{nodes} nodes, fresh"), Lent::fresh(nodes));
     }
     for (pool, bits, length) in HOSTILE {
         let (lent, lists) = scattered(pool, bits, length);
         let name =
             format!("{pool} nodes, hostile: {lists} scattered lists of {length}, bits {bits}");
-        line(&name, &lent);
-        line(&format!("{name}, last count wrong"), &spoilt(lent));
+        line(&name, lent.clone());
+        line(&format!("{name}, last count wrong"), spoilt(lent));
     }
-    line("65,536 nodes, hostile: cycles", &cycles(POOL));
+    line("65,536 nodes, hostile: cycles", cycles(POOL));
     agree
 }
 
-fn list(pool: usize, bits: u32, length: u32) -> State {
-    let mut ours = Ours::with_pool(pool, usize::MAX);
-    let values: Vec<u32> = (0..length).map(element).collect();
-    fill(&mut ours, 0, 1, bits, &values);
-    ours.state
+fn served(pool: usize, frames: &[Frame]) -> Lent {
+    let mut lent = Lent::fresh(pool);
+    let answers = lent.serve(frames).expect("the state is well-formed");
+    assert!(answers.iter().all(|answer| answer.number == DONE));
+    lent
 }
 
-fn shared(pool: usize, bits: u32, length: u32) -> State {
-    let mut state = list(pool, bits, length);
-    for slot in 1..SLOTS {
-        let set = state.set(0, slot, element(slot as u32) % length, 7);
-        set.expect("nodes are free");
+fn list(pool: usize, bits: u32, length: u32) -> Lent {
+    served(pool, &grown(HOST, bits, length))
+}
+
+/// Every party has the list.
+fn handed_out(bits: u32, length: u32) -> Vec<Frame> {
+    let mut frames = grown(HOST, bits, length);
+    frames.extend((1..PARTIES).map(|party| Frame::hand_over((HOST, LIST), (party, LIST))));
+    frames
+}
+
+/// So many numbers of each party, with the number among all.
+fn numbers_of_parties(each: u8) -> impl Iterator<Item = (u8, u8, u8)> {
+    let of = move |party| (0..each).map(move |number| (party, number, each * party + number));
+    (0..PARTIES).flat_map(of)
+}
+
+/// Every other slot has the list with one element set.
+fn shared(pool: usize, bits: u32, length: u32) -> Lent {
+    let mut frames = handed_out(bits, length);
+    for (party, slot, number) in numbers_of_parties(SLOTS).filter(|it| it.1 != LIST) {
+        frames.push(Frame {
+            index: element(number.into()) % length,
+            value: 7,
+            ..Frame::of(party, SET, LIST, slot)
+        });
     }
-    state
+    served(pool, &frames)
 }
 
 /// Every slot and every walk has the list, and each walk has taken some from both ends.
-fn walked(pool: usize, bits: u32, length: u32) -> State {
-    let mut state = list(pool, bits, length);
-    for slot in 1..SLOTS {
-        state.clone_version(0, slot);
+fn walked(pool: usize, bits: u32, length: u32) -> Lent {
+    let mut frames = handed_out(bits, length);
+    for (party, slot, _) in numbers_of_parties(SLOTS).filter(|it| it.1 != LIST) {
+        frames.push(Frame::of(party, CLONE, LIST, slot));
     }
-    for walk in 0..WALKS {
-        state.open_walk(walk, walk);
-        for step in 0..=walk {
-            let taken = state.next(walk, step % 2 == 1);
-            taken.expect("the list is longer");
-        }
+    for (party, walk, number) in numbers_of_parties(WALKS) {
+        frames.push(Frame::of(party, OPEN_WALK, LIST, walk));
+        let steps = [NEXT, NEXT_BACK].into_iter().cycle();
+        let steps = steps.take(usize::from(number) + 1);
+        frames.extend(steps.map(|step| Frame::of(party, step, walk, 0)));
     }
-    state
+    served(pool, &frames)
 }
 
 /// Refused only when the last node is compared.
@@ -94,15 +113,18 @@ fn spoilt(mut lent: Lent) -> Lent {
     lent
 }
 
-fn bench(name: &str, lent: &Lent) -> bool {
+/// By turns, so that what slows the machine slows both.
+fn bench(name: &str, mut lent: Lent) -> bool {
     let mut copy = lent.clone();
-    let [audit, copying] = times([
-        &mut || _ = black_box(ffi::audit(black_box(lent))),
-        &mut || copy_all(black_box(lent), black_box(&mut copy)),
-    ]);
-    let plain = plain_audit::audit(lent);
-    let answer = ffi::audit(lent);
-    let agree = (answer.number == 0) == plain.is_ok();
+    let mut times = [const { Vec::new() }; 2];
+    for _ in 0..ROUNDS {
+        times[0].push(time(|| {
+            black_box(ffi::batch(black_box(&mut lent), &[], &mut []));
+        }));
+        times[1].push(time(|| black_box(&mut copy).clone_from(black_box(&lent))));
+    }
+    let [audit, copying] = times.map(Times::of);
+    let verdict = judge(&mut lent);
     let ratio = |a: Duration, b: Duration| a.as_secs_f64() / b.as_secs_f64();
     println!(
         "{name}: audit {:.1?}, copy {:.1?}, ratio {:.2} (of the least times {:.2}), answer {}",
@@ -110,12 +132,18 @@ fn bench(name: &str, lent: &Lent) -> bool {
         copying.median,
         ratio(audit.median, copying.median),
         ratio(audit.least, copying.least),
-        answer.number
+        verdict.ours.err().unwrap_or(0)
     );
-    if !agree {
-        println!("{name}: the plain audit disagrees: {plain:?}");
+    if !verdict.agrees() {
+        println!("{name}: the audits disagree: {verdict:?}");
     }
-    agree
+    verdict.agrees()
+}
+
+fn time(run: impl FnOnce()) -> Duration {
+    let start = Instant::now();
+    run();
+    start.elapsed()
 }
 
 struct Times {
@@ -123,33 +151,12 @@ struct Times {
     least: Duration,
 }
 
-/// By turns, so that what slows the machine slows both.
-fn times(mut runs: [&mut dyn FnMut(); 2]) -> [Times; 2] {
-    let mut times = [const { Vec::new() }; 2];
-    for _ in 0..ROUNDS {
-        for (run, times) in runs.iter_mut().zip(&mut times) {
-            let start = Instant::now();
-            run();
-            times.push(start.elapsed());
-        }
-    }
-    times.map(|mut times: Vec<Duration>| {
+impl Times {
+    fn of(mut times: Vec<Duration>) -> Times {
         times.sort();
         Times {
-            median: times[ROUNDS / 2],
+            median: times[times.len() / 2],
             least: times[0],
         }
-    })
-}
-
-fn copy_all(from: &Lent, to: &mut Lent) {
-    to.kinds.copy_from_slice(&from.kinds);
-    to.used.copy_from_slice(&from.used);
-    to.counts.copy_from_slice(&from.counts);
-    to.cells.copy_from_slice(&from.cells);
-    to.order.copy_from_slice(&from.order);
-    to.versions.copy_from_slice(&from.versions);
-    to.walk_numbers.copy_from_slice(&from.walk_numbers);
-    to.walk_nodes.copy_from_slice(&from.walk_nodes);
-    to.walk_indices.copy_from_slice(&from.walk_indices);
+    }
 }

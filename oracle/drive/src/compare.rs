@@ -1,12 +1,21 @@
 //! `drive compare`: pairs of lists of mixed bits around equal prefixes, against the original's `cmp`.
 
 use crate::part::Part;
-use crate::subject::{replace, Subject};
+use crate::subject::Subject;
 use crate::transcript::{Fnv1a, Transcript};
 use formulas::BITS;
+use frames::numbers::*;
+use frames::Frame;
+use std::mem::swap;
 
 const MOST: u32 = 70;
 const POOL: usize = 400;
+const FRAMES_A_BATCH: usize = 128;
+const PARTY: u8 = 1;
+/// Each list's slots, by turns, and the slot of the one with a changed element.
+const LIST: [u8; 2] = [0, 1];
+const OTHER: [u8; 2] = [2, 3];
+const CHANGED: u8 = 4;
 /// Around 0, the largest signed number and the largest unsigned one.
 const VALUES: [u32; 9] = [
     0,
@@ -31,10 +40,6 @@ impl Part for Compare {
     const COLUMNS: &'static str =
         "bits of one list, of the other, length of the one, how many compare as less, equal, greater, checksum of the answers";
 
-    fn audit_each(_: usize) -> usize {
-        64
-    }
-
     fn run<S: Subject>(
         make: impl Fn(usize) -> S,
         mut done: impl FnMut(S),
@@ -51,22 +56,19 @@ impl Part for Compare {
 }
 
 fn all_lengths(subject: &mut dyn Subject, transcript: &mut Transcript, bits: u32, other: u32) {
-    let (mut list, mut spare) = (0, 1);
-    subject.new_list(list, bits).expect("a node is free");
+    let [mut list, mut spare] = LIST;
+    subject.done(&[new(list, bits)]);
     for length in 0..=MOST {
-        let mut answers = Answers::default();
-        against_all(subject, &mut answers, list, other);
         let Answers {
             counts: [less, equal, greater],
             checksum: Fnv1a(sum),
-        } = answers;
+        } = Answers::of(subject, &against_all(list, other));
         let row = format!("{bits} {other} {length} {less} {equal} {greater} {sum:016x}");
         transcript.row(length % 10 == 0, row);
-        let push = subject.push(list, spare, value(length));
-        push.expect("nodes are free");
-        replace(subject, &mut list, &mut spare);
+        subject.done(&pushed(list, spare, length));
+        swap(&mut list, &mut spare);
     }
-    subject.release(list);
+    subject.done(&[frame(RELEASE, list, 0)]);
 }
 
 #[derive(Default)]
@@ -76,35 +78,70 @@ struct Answers {
 }
 
 impl Answers {
-    /// Both ways.
-    fn pair(&mut self, subject: &dyn Subject, slot: usize, other: usize) {
-        for (a, b) in [(slot, other), (other, slot)] {
-            let answer = subject.compare(a, b);
-            self.counts[(answer.clamp(-1, 1) + 1) as usize] += 1;
-            self.checksum.feed(&answer.to_be_bytes());
+    /// Serves frames that are all done.
+    fn of(subject: &mut dyn Subject, frames: &[Frame]) -> Answers {
+        let mut answers = Answers::default();
+        for frames in frames.chunks(FRAMES_A_BATCH) {
+            for (frame, answer) in frames.iter().zip(subject.batch(frames)) {
+                assert_eq!(answer.number, DONE, "{frame:?}");
+                if frame.operation == COMPARE {
+                    answers.add(answer.value.cast_signed());
+                }
+            }
         }
+        answers
+    }
+
+    fn add(&mut self, order: i32) {
+        self.counts[(order.clamp(-1, 1) + 1) as usize] += 1;
+        self.checksum.feed(&order.to_be_bytes());
     }
 }
 
+fn frame(operation: u8, slot: u8, destination: u8) -> Frame {
+    Frame::of(PARTY, operation, slot, destination)
+}
+
+fn new(destination: u8, bits: u32) -> Frame {
+    Frame {
+        index: bits,
+        ..frame(NEW, 0, destination)
+    }
+}
+
+/// One more element; the source is released.
+fn pushed(slot: u8, destination: u8, length: u32) -> [Frame; 2] {
+    let push = Frame {
+        value: value(length),
+        ..frame(PUSH_BACK, slot, destination)
+    };
+    [push, frame(RELEASE, slot, 0)]
+}
+
+fn both_ways(slot: u8, other: u8) -> [Frame; 2] {
+    [frame(COMPARE, slot, other), frame(COMPARE, other, slot)]
+}
+
 /// A list against prefixes of the same elements, and against those with one element a little less or more.
-fn against_all(subject: &mut dyn Subject, answers: &mut Answers, list: usize, bits: u32) {
-    const CHANGED: usize = 10;
-    let (mut other, mut spare) = (8, 9);
-    subject.new_list(other, bits).expect("a node is free");
+fn against_all(list: u8, bits: u32) -> Vec<Frame> {
+    let [mut other, mut spare] = OTHER;
+    let mut frames = vec![new(other, bits)];
     for length in 0..=MOST {
-        answers.pair(subject, list, other);
+        frames.extend(both_ways(list, other));
         for (index, by) in [(0, 1), (length / 2, u32::MAX), (length.max(1) - 1, 1)] {
             if index < length {
-                let changed = value(index).wrapping_add(by);
-                let set = subject.set(other, CHANGED, index, changed);
-                set.expect("nodes are free");
-                answers.pair(subject, list, CHANGED);
-                subject.release(CHANGED);
+                frames.push(Frame {
+                    index,
+                    value: value(index).wrapping_add(by),
+                    ..frame(SET, other, CHANGED)
+                });
+                frames.extend(both_ways(list, CHANGED));
+                frames.push(frame(RELEASE, CHANGED, 0));
             }
         }
-        let push = subject.push(other, spare, value(length));
-        push.expect("nodes are free");
-        replace(subject, &mut other, &mut spare);
+        frames.extend(pushed(other, spare, length));
+        swap(&mut other, &mut spare);
     }
-    subject.release(other);
+    frames.push(frame(RELEASE, other, 0));
+    frames
 }

@@ -3,10 +3,9 @@
 use crate::dag::shared_list;
 use crate::damages::Base;
 use crate::random_calls;
-use crate::rng::Rng;
-use crate::state::State;
 use crate::verdict::judge;
 use formulas::{height, BITS, LENGTH_LIMIT};
+use frames::rng::Rng;
 use lent::{Lent, SLOTS, WALKS};
 use std::collections::BTreeMap;
 
@@ -89,7 +88,7 @@ impl Campaign {
     /// Judges a state; `same` is equal to it, and must be so afterwards.
     pub fn judge(
         &mut self,
-        lent: &Lent,
+        lent: &mut Lent,
         same: &Lent,
         kind: &str,
         what: impl Fn() -> String,
@@ -99,7 +98,7 @@ impl Campaign {
         if !verdict.agrees() {
             self.wrong.push(format!("{kind}, {}: {verdict:?}", what()));
         }
-        if lent != same {
+        if *lent != *same {
             self.wrong.push(format!("{kind}, {}: written", what()));
         }
         if !self.kinds.contains_key(kind) {
@@ -112,12 +111,18 @@ impl Campaign {
         well_formed
     }
 
+    /// The same for a state that has no equal beside it.
+    pub fn judge_one(&mut self, lent: &mut Lent, kind: &str, what: &str) -> bool {
+        let same = lent.clone();
+        self.judge(lent, &same, kind, || what.into())
+    }
+
     /// Pools of every size around the limits.
     fn sizes(&mut self) {
         for (nodes, legal) in [(0, false), (1, true), (65_536, true), (65_537, false)] {
-            let lent = Lent::fresh(nodes);
+            let mut lent = Lent::fresh(nodes);
             let kind = format!("fresh state of {nodes} nodes");
-            if self.judge(&lent, &lent.clone(), &kind, String::new) != legal {
+            if self.judge_one(&mut lent, &kind, "") != legal {
                 self.wrong.push(format!("{kind}: judged otherwise"));
             }
         }
@@ -128,11 +133,11 @@ impl Campaign {
         for bits in BITS {
             let around = LENGTH_LIMIT - 3..=LENGTH_LIMIT + 3;
             for length in around.chain([2 * LENGTH_LIMIT, 1 << 20]).chain(0..=130) {
-                let lent = shared_list(bits, length);
+                let mut lent = shared_list(bits, length);
                 let kind = "list whose equal parts are one node";
                 let what = format!("bits {bits}, length {length}");
                 let legal = length <= LENGTH_LIMIT;
-                if self.judge(&lent, &lent.clone(), kind, || what.clone()) != legal {
+                if self.judge_one(&mut lent, kind, &what) != legal {
                     self.wrong.push(format!("{kind}, {what}: judged otherwise"));
                 }
             }
@@ -154,31 +159,26 @@ impl Campaign {
             let bits = 1 + self.rng.below(5) as u32;
             let length = self.rng.below(LENGTH_LIMIT as usize + 1) as u32;
             let lent = shared_list(bits, length);
-            let free = lent.kinds.iter().filter(|kind| **kind == 0).count();
             let name = format!("state {number}, shared list of {length}, bits {bits}");
-            return Base { lent, free, name };
+            return Base { lent, name };
         }
         let nodes = self.pool();
-        let mut state = State::fresh(nodes);
+        let mut lent = Lent::formed(nodes);
         for _ in 0..self.rng.below(CALLS_BETWEEN) {
-            random_calls::call(&mut state, &mut self.rng);
+            random_calls::call(&mut lent, &mut self.rng);
         }
-        Base {
-            lent: state.lent().clone(),
-            free: state.free(),
-            name: format!("state {number} of {nodes} nodes"),
-        }
+        let name = format!("state {number} of {nodes} nodes");
+        Base { lent, name }
     }
 
     /// A well-formed state, damaged.
     fn base(&mut self) {
         self.bases += 1;
-        let base = self.made();
+        let mut base = self.made();
         for (most, new) in self.richest.iter_mut().zip(richness(&base.lent)) {
             *most = new.max(*most);
         }
-        let same = base.lent.clone();
-        if !self.judge(&base.lent, &same, "no damage", || base.name.clone()) {
+        if !self.judge_one(&mut base.lent, "no damage", &base.name) {
             let wrong = format!("{}: not well-formed before any damage", base.name);
             self.wrong.push(wrong);
         }

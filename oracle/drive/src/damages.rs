@@ -6,10 +6,9 @@ use lent::{Lent, NODE_CELLS, SLOTS, VERSION_NUMBERS, WALKS, WALK_NUMBERS};
 
 const BRANCH: u8 = 2;
 
-/// A well-formed state, with what its free nodes and its name are.
+/// A well-formed state and its name.
 pub struct Base {
     pub lent: Lent,
-    pub free: usize,
     pub name: String,
 }
 
@@ -60,7 +59,7 @@ impl Campaign {
         area.put(lent, at, value);
         area.put(same, at, value);
         if *lent != base.lent {
-            let kind = area.name(&base.lent, base.free, at);
+            let kind = area.name(&base.lent, at);
             let what = || format!("{area:?}[{at}] from {old} to {value}, {}", base.name);
             self.judge(lent, same, &kind, what);
         }
@@ -85,7 +84,7 @@ impl Campaign {
             lent.counts[node] += 1;
             let kind = format!("link in {area:?} changed with its counts");
             let what = format!("{area:?}[{at}] from {old} to {node}");
-            self.judge_changed(base, &lent, &kind, &what);
+            self.judge_changed(base, lent, &kind, &what);
         }
     }
 
@@ -101,7 +100,7 @@ impl Campaign {
                     lent.counts[child as usize] -= 1;
                 }
                 let what = format!("node {n} to kind {kind}");
-                self.judge_changed(base, &lent, "kind of branch changed with counts", &what);
+                self.judge_changed(base, lent, "kind of branch changed with counts", &what);
             }
         }
     }
@@ -112,7 +111,7 @@ impl Campaign {
             let area = AREAS[round % AREAS.len()];
             let swapped = self.swapped(&base.lent, area);
             let kind = format!("two of {area:?} swapped");
-            self.judge_changed(base, &swapped, &kind, "");
+            self.judge_changed(base, swapped, &kind, "");
 
             let mut lent = base.lent.clone();
             for _ in 0..2 + self.rng.below(3) {
@@ -121,7 +120,7 @@ impl Campaign {
                 let value = area.value(&lent, at, 0, LEGAL, &mut self.rng);
                 area.put(&mut lent, at, value);
             }
-            self.judge_changed(base, &lent, "several damages", "");
+            self.judge_changed(base, lent, "several damages", "");
         }
     }
 
@@ -137,22 +136,21 @@ impl Campaign {
     }
 
     /// Only a state that is not the base itself is one more.
-    fn judge_changed(&mut self, base: &Base, lent: &Lent, kind: &str, what: &str) {
-        if *lent != base.lent {
-            let what = || format!("{what}, {}", base.name);
-            self.judge(lent, &lent.clone(), kind, what);
+    fn judge_changed(&mut self, base: &Base, mut lent: Lent, kind: &str, what: &str) {
+        if lent != base.lent {
+            self.judge_one(&mut lent, kind, &format!("{what}, {}", base.name));
         }
     }
 
     /// Slices that are too short or too long.
     pub fn lengths(&mut self, base: &Base) {
         for area in AREAS {
-            let len = area.len(&base.lent);
-            for wrong in [len - 1, len + 1, 0, 2 * len] {
+            let (len, unit) = (area.len(&base.lent), area.unit());
+            for wrong in [len - unit, len + unit, 0, 2 * len] {
                 let mut lent = base.lent.clone();
                 area.resize(&mut lent, wrong);
                 let what = format!("{area:?} of {wrong}, {}", base.name);
-                if self.judge(&lent, &lent.clone(), "wrong slice length", || what.clone()) {
+                if self.judge_one(&mut lent, "wrong slice length", &what) {
                     self.wrong.push(format!("{what}: accepted"));
                 }
             }
@@ -169,7 +167,7 @@ impl Campaign {
                     area.put(&mut lent, at, value);
                 }
             }
-            self.judge_changed(base, &lent, "random bytes", "");
+            self.judge_changed(base, lent, "random bytes", "");
         }
     }
 }

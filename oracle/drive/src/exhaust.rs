@@ -1,17 +1,14 @@
 //! Each call at each number of free nodes from 0 to its charge, in a pool that other versions fill: 10 exactly when fewer are free.
 
-use crate::state::Refusal;
-use crate::subject::{element, fill, Subject};
+use crate::subject::{free_nodes, Subject};
 use crate::transcript::Transcript;
-use formulas::{degree, drop_charge, nodes, push_charge, set_charge};
+use formulas::{degree, drop_charge, nodes, push_charge, set_charge, NEW_CHARGE};
+use frames::grown::{grown, LIST};
+use frames::numbers::*;
+use frames::Frame;
 
-const LIST: usize = 0;
-const RESULT: usize = 1;
-/// Versions of one node each, that take what is to be taken from the pool.
-const FIRST_FILLER: usize = 8;
-const SPARE: usize = 17;
-
-const CALLS: [&str; 6] = ["new", "set first", "set middle", "set last", "push", "drop"];
+const RESULT: u8 = 1;
+const SPARE: u32 = 17;
 
 /// Short ones, and those around powers of the degree.
 pub fn lengths(bits: u32) -> Vec<u32> {
@@ -23,68 +20,59 @@ pub fn lengths(bits: u32) -> Vec<u32> {
 }
 
 pub fn pool(bits: u32, length: u32) -> usize {
-    nodes(bits, length) as usize + SPARE
+    (nodes(bits, length) + SPARE) as usize
 }
 
-fn charge(call: &str, bits: u32, length: u32) -> u32 {
-    match call {
-        "new" => 1,
-        "push" => push_charge(bits, length),
-        _ if length == 0 => 0,
-        "drop" => drop_charge(bits, length),
-        _ => set_charge(bits, length),
-    }
-}
-
-fn run_call(subject: &mut dyn Subject, call: &str, bits: u32) -> Result<u32, Refusal> {
-    let length = subject.length(LIST);
+/// Names and calls, with their charges; 0 for a call that is refused with another number.
+fn calls(bits: u32, length: u32) -> [(&'static str, Frame, u32); 6] {
+    let edit = |operation, index| Frame {
+        index,
+        value: 1,
+        ..Frame::of(HOST, operation, LIST, RESULT)
+    };
     let last = length.max(1) - 1;
-    match call {
-        "new" => subject.new_list(RESULT, bits),
-        "set first" => subject.set(LIST, RESULT, 0, 1),
-        "set middle" => subject.set(LIST, RESULT, length / 2, 1),
-        "set last" => subject.set(LIST, RESULT, last, 1),
-        "push" => subject.push(LIST, RESULT, 1),
-        _ => subject.drop_last(LIST, RESULT),
-    }
+    let if_any = |charge: fn(u32, u32) -> u32| match length {
+        0 => 0,
+        _ => charge(bits, length),
+    };
+    let set = if_any(set_charge);
+    [
+        ("new", edit(NEW, bits), NEW_CHARGE),
+        ("set first", edit(SET, 0), set),
+        ("set middle", edit(SET, length / 2), set),
+        ("set last", edit(SET, last), set),
+        ("push", edit(PUSH_BACK, 0), push_charge(bits, length)),
+        ("drop", edit(DROP_LAST, 0), if_any(drop_charge)),
+    ]
+}
+
+/// A version of one node, of the parties from 1, and its release.
+fn filler(number: u32) -> (Frame, Frame) {
+    let (party, slot) = (1 + number as u8 / SLOTS, number as u8 % SLOTS);
+    let new = Frame {
+        index: 5,
+        ..Frame::of(party, NEW, 0, slot)
+    };
+    (new, Frame::of(party, RELEASE, slot, 0))
 }
 
 /// Each row: bits, length, call, free nodes before, number, fresh, free nodes after.
 pub fn run(subject: &mut dyn Subject, transcript: &mut Transcript, bits: u32, length: u32) {
-    let values: Vec<u32> = (0..length).map(element).collect();
-    fill(subject, LIST, RESULT, bits, &values);
-    for call in CALLS {
-        for free in (0..=charge(call, bits, length) as usize).rev() {
-            take_until(subject, free);
-            let answer = run_call(subject, call, bits);
-            let after = subject.free();
-            let row = match answer {
-                Ok(fresh) => format!("{bits} {length} {call} {free} 0 {fresh} {after}"),
-                Err(number) => format!("{bits} {length} {call} {free} {number} 0 {after}"),
-            };
+    subject.done(&grown(HOST, bits, length));
+    for (name, call, charge) in calls(bits, length) {
+        for free in (0..=charge).rev() {
+            let (fill, release): (Vec<Frame>, Vec<Frame>) = (free..SPARE).map(filler).unzip();
+            subject.done(&fill);
+            let answers = subject.batch(&[free_nodes(), call, free_nodes()]);
+            let [before, after] = [answers[0].value, answers[2].value];
+            let (number, fresh) = (answers[1].number, answers[1].fresh);
+            let row = format!("{bits} {length} {name} {before} {number} {fresh} {after}");
             transcript.row(length <= 5, row);
-            if answer.is_ok() {
-                subject.release(RESULT);
+            if number == DONE {
+                subject.done(&[Frame::of(HOST, RELEASE, RESULT, 0)]);
             }
-            give_back(subject, free);
+            subject.done(&release);
         }
     }
-    subject.release(LIST);
-}
-
-fn fillers(subject: &dyn Subject, free: usize) -> usize {
-    subject.free() - free
-}
-
-fn take_until(subject: &mut dyn Subject, free: usize) {
-    for filler in 0..fillers(subject, free) {
-        let taken = subject.new_list(FIRST_FILLER + filler, 5);
-        taken.expect("a node is free");
-    }
-}
-
-fn give_back(subject: &mut dyn Subject, free: usize) {
-    for filler in 0..SPARE - free {
-        subject.release(FIRST_FILLER + filler);
-    }
+    subject.done(&[Frame::of(HOST, RELEASE, LIST, 0)]);
 }

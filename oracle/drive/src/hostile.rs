@@ -1,7 +1,7 @@
 //! Well-formed states made by hand to be slow to audit, and one with cycles.
 
-use crate::rng::Rng;
 use formulas::{degree, height, nodes_at_level, LENGTH_LIMIT};
+use frames::rng::Rng;
 use lent::{Lent, NODE_CELLS, SLOTS, WALKS, WALK_NUMBERS};
 
 const LEAF: u8 = 1;

@@ -1,4 +1,4 @@
-//! Holds our code, by way of the static library of the crate `trial`, against the original and against a plain audit.
+//! Holds the static library of the crate `host` against scripts that the original has answered, and its audit against a plain one.
 
 mod bench;
 mod compare;
@@ -8,17 +8,14 @@ mod damages;
 mod edit_script;
 mod edits;
 mod exhaust;
-mod ffi;
+mod held_walks;
 mod hostile;
-#[cfg(feature = "original")]
-mod original;
 mod ours;
 mod part;
 mod places;
 mod plain_audit;
 mod random_calls;
-mod rng;
-mod state;
+mod refusals;
 mod subject;
 mod transcript;
 mod verdict;
@@ -68,8 +65,11 @@ fn run(arguments: &[&str]) -> Option<io::Result<bool>> {
 
 fn held(part: &str, recorded: Option<&Path>) -> Option<io::Result<bool>> {
     let (own, judged) = match part {
-        "edits" => (edits::refusals(), part::hold::<edits::Edits>(recorded)),
-        "walks" => (walks::held_walks(), part::hold::<walks::Walks>(recorded)),
+        "edits" => (refusals::refusals(), part::hold::<edits::Edits>(recorded)),
+        "walks" => (
+            held_walks::held_walks(),
+            part::hold::<walks::Walks>(recorded),
+        ),
         "compare" => (true, part::hold::<compare::Compare>(recorded)),
         _ => return None,
     };

@@ -11,9 +11,6 @@ pub trait Part {
     /// What the columns of a row are.
     const COLUMNS: &'static str;
 
-    /// How often our states are audited, in a pool of so many nodes: 1 is always.
-    fn audit_each(pool: usize) -> usize;
-
     /// Runs the script on subjects of the pools that it asks for, and hands each to `done`.
     fn run<S: Subject>(make: impl Fn(usize) -> S, done: impl FnMut(S), transcript: &mut Transcript);
 }
@@ -28,12 +25,13 @@ fn header<P: Part>() -> String {
 /// Prints what was compared and answers whether all of it agreed.
 pub fn hold<P: Part>(recorded: Option<&Path>) -> io::Result<bool> {
     let (mut ours, mut audits, mut wrong) = (Transcript::default(), 0, Vec::new());
-    let make = |pool| Ours::with_pool(pool, P::audit_each(pool));
-    let done = |subject: Ours| {
+    let done = |mut subject: Ours| {
+        // the last state is judged as well
+        subject.batch(&[]);
         audits += subject.audits;
         wrong.extend(subject.flaws);
     };
-    P::run(make, done, &mut ours);
+    P::run(Ours::with_pool, done, &mut ours);
     let flaws = wrong.len();
     wrong.extend(differences::<P>(&ours, recorded)?);
     for what in wrong.iter().take(20) {
@@ -67,7 +65,7 @@ fn differences<P: Part>(ours: &Transcript, recorded: Option<&Path>) -> io::Resul
 #[cfg(feature = "original")]
 fn original<P: Part>() -> Transcript {
     let mut transcript = Transcript::default();
-    P::run(crate::original::Original::with_pool, drop, &mut transcript);
+    P::run(session::state::State::fresh, drop, &mut transcript);
     transcript
 }
 

@@ -1,6 +1,6 @@
 //! Every place of a lent state, and values to put there.
 
-use crate::rng::Rng;
+use frames::rng::Rng;
 use lent::{Lent, NODE_CELLS, VERSION_NUMBERS, WALK_LEVELS, WALK_NUMBERS};
 use std::mem::replace;
 
@@ -69,6 +69,14 @@ impl Area {
         }
     }
 
+    /// How many numbers are one element of the slice that a host lends.
+    pub fn unit(self) -> usize {
+        match self {
+            Area::Versions => VERSION_NUMBERS,
+            _ => 1,
+        }
+    }
+
     pub fn resize(self, lent: &mut Lent, len: usize) {
         match self {
             Area::Versions => lent.versions.resize(len, 0),
@@ -114,8 +122,8 @@ impl Area {
         }
     }
 
-    /// What stands at a place of a well-formed state with so many free nodes.
-    pub fn name(self, lent: &Lent, free: usize, at: usize) -> String {
+    /// What stands at a place of a well-formed state.
+    pub fn name(self, lent: &Lent, at: usize) -> String {
         let node = |n: usize| NODE_KINDS[usize::from(lent.kinds[n])];
         let slot = |n: usize| ["empty slot", "slot"][lent.version(n).live as usize];
         let walk = |n: usize| ["closed walk", "walk"][lent.walked_version(n).live as usize];
@@ -132,7 +140,7 @@ impl Area {
             Area::Counts => format!("count of {}", node(at)),
             Area::Kinds => format!("kind of {}", node(at)),
             Area::Used => format!("used of {}", node(at)),
-            Area::Order if at < free => String::from("free order"),
+            Area::Order if at < lent.free_nodes() => String::from("free order"),
             Area::Order => String::from("order past the free nodes"),
             Area::WalkNodes => format!("level node of {}", walk(at / levels)),
             Area::WalkIndices => format!("level index of {}", walk(at / levels)),

@@ -131,21 +131,21 @@ impl Reached<'_> {
 
     /// A stack is the way to the next element, from the leaf up; all 0 before anything and after everything is taken.
     fn stack(&self, stack: usize, v: Version, taken: u64, next: u64) -> Result<(), &'static str> {
-        let mut expected = [(0, 0); WALK_LEVELS];
+        let (mut nodes, mut indices) = ([0; WALK_LEVELS], [0; WALK_LEVELS]);
         if v.live == 1 && taken != 0 && taken != u64::from(v.length) {
             let mut node = v.root;
             for level in (0..=height(v.bits, v.length)).rev() {
                 let bucket = (next >> (level * v.bits)) % (1 << v.bits);
-                expected[level as usize] = (node, bucket as i32);
+                nodes[level as usize] = node;
+                indices[level as usize] = bucket as i32;
                 node = self.lent.cells[NODE_CELLS * node as usize + bucket as usize];
             }
         }
-        for (level, (node, index)) in expected.into_iter().enumerate() {
-            let at = WALK_LEVELS * stack + level;
-            demand(self.lent.walk_nodes[at] == node, "node of a level")?;
-            demand(self.lent.walk_indices[at] == index, "index of a level")?;
-        }
-        Ok(())
+        let levels = WALK_LEVELS * stack..WALK_LEVELS * (stack + 1);
+        let has_nodes = self.lent.walk_nodes[levels.clone()] == nodes;
+        let has_indices = self.lent.walk_indices[levels] == indices;
+        demand(has_nodes, "node of a level")?;
+        demand(has_indices, "index of a level")
     }
 
     /// The links from cells: each reached branch counts once, however many reach it.

@@ -1,56 +1,66 @@
 //! Well-formed states made by random calls of eight parties.
 
-use crate::rng::Rng;
-use crate::state::State;
+use frames::numbers::*;
+use frames::rng::Rng;
+use frames::Frame;
+use lent::Lent;
 
-const PARTIES: usize = 8;
-const PARTY_SLOTS: usize = 8;
-const PARTY_WALKS: usize = 2;
-
-/// One call of a random party, if its slots and walks allow it.
-pub fn call(state: &mut State, rng: &mut Rng) {
-    let party = rng.below(PARTIES);
-    let slot = PARTY_SLOTS * party + rng.below(PARTY_SLOTS);
-    let destination = PARTY_SLOTS * party + rng.below(PARTY_SLOTS);
-    let walk = PARTY_WALKS * party + rng.below(PARTY_WALKS);
-    let (live, open) = (state.is_live(slot), state.is_open(walk));
-    let room = !state.is_live(destination);
-    match rng.below(100) {
-        0..=5 if room => _ = state.new_version(destination, 1 + rng.below(5) as u32),
-        6..=12 if live && room => state.clone_version(slot, destination),
-        13..=22 if live => state.release(slot),
-        23..=35 if live && room => {
-            let index = rng.below(state.length(slot) as usize + 1) as u32;
-            _ = state.set(slot, destination, index, rng.word());
+/// One call of a random party; a call that its slots, walks or nodes don't allow is refused and changes nothing.
+pub fn call(lent: &mut Lent, rng: &mut Rng) {
+    let party = rng.byte_below(PARTIES);
+    let [slot, destination] = [SLOTS; 2].map(|slots| rng.byte_below(slots));
+    let walk = rng.byte_below(WALKS);
+    let own = |operation, slot, destination| Frame::of(party, operation, slot, destination);
+    let frame = match rng.below(100) {
+        0..=5 => Frame {
+            index: 1 + rng.below(5) as u32,
+            ..own(NEW, 0, destination)
+        },
+        6..=12 => own(CLONE, slot, destination),
+        13..=22 => own(RELEASE, slot, 0),
+        23..=35 => {
+            let length = lent.version(usize::from(SLOTS * party + slot)).length;
+            Frame {
+                index: rng.below(length as usize + 1) as u32,
+                value: rng.word(),
+                ..own(SET, slot, destination)
+            }
         }
-        36..=45 if live && room => _ = state.drop_last(slot, destination),
-        46..=70 if live && room => pushes(state, rng, slot, destination),
-        71..=75 if live && !open => state.open_walk(walk, slot),
-        76..=84 if open => _ = state.next(walk, false),
-        85..=93 if open => _ = state.next(walk, true),
-        94..=95 if open => state.close_walk(walk),
-        96..=98 if live => hand_over(state, rng, slot),
-        _ => {}
-    }
+        36..=45 => own(DROP_LAST, slot, destination),
+        46..=70 => return pushes(lent, rng, own(PUSH_BACK, slot, destination)),
+        71..=75 => own(OPEN_WALK, slot, walk),
+        76..=84 => own(NEXT, walk, 0),
+        85..=93 => own(NEXT_BACK, walk, 0),
+        94..=95 => own(CLOSE_WALK, walk, 0),
+        _ => {
+            let to = (rng.byte_below(PARTIES), rng.byte_below(SLOTS));
+            Frame::hand_over((party, slot), to)
+        }
+    };
+    is_last_done(lent, &[frame]);
 }
 
-/// Several pushes, each result in its source's place, so that lists grow.
-fn pushes(state: &mut State, rng: &mut Rng, slot: usize, destination: usize) {
+/// Several pushes, from slot to slot, so that lists grow; each source but the last is released.
+fn pushes(lent: &mut Lent, rng: &mut Rng, first: Frame) {
     let most = [2, 12, 60, 300][rng.below(4)];
-    for _ in 0..rng.below(most) {
-        if state.push(slot, destination, rng.word()).is_err() {
+    let mut frames = vec![first];
+    for _ in 0..=rng.below(most) {
+        if !is_last_done(lent, &frames) {
             return;
         }
-        state.release(slot);
-        state.clone_version(destination, slot);
-        state.release(destination);
+        let [.., last] = frames[..] else { return };
+        let release = Frame::of(last.party, RELEASE, last.slot, 0);
+        let push = Frame {
+            slot: last.destination,
+            destination: last.slot,
+            value: rng.word(),
+            ..last
+        };
+        frames = vec![release, push];
     }
-    _ = state.push(slot, destination, rng.word());
 }
 
-fn hand_over(state: &mut State, rng: &mut Rng, slot: usize) {
-    let destination = rng.below(PARTIES * PARTY_SLOTS);
-    if !state.is_live(destination) {
-        state.clone_version(slot, destination);
-    }
+fn is_last_done(lent: &mut Lent, frames: &[Frame]) -> bool {
+    let answers = lent.serve(frames).expect("the state is well-formed");
+    answers.last().is_some_and(|answer| answer.number == DONE)
 }

@@ -1,44 +1,35 @@
-//! What a script runs on, our code or the original: slots of lists, in a pool of so many nodes.
+//! What a script runs on, our code or the original: a state of so many nodes that is served frames.
 
-use crate::state::Refusal;
+use frames::numbers::*;
+use frames::{Answer, Frame};
 
 pub trait Subject {
-    /// Answers how many nodes the result has that were not in use before; so do the other edits.
-    fn new_list(&mut self, destination: usize, bits: u32) -> Result<u32, Refusal>;
-    fn set(&mut self, slot: usize, to: usize, index: u32, value: u32) -> Result<u32, Refusal>;
-    fn push(&mut self, slot: usize, to: usize, value: u32) -> Result<u32, Refusal>;
-    fn drop_last(&mut self, slot: usize, to: usize) -> Result<u32, Refusal>;
-    fn clone_list(&mut self, slot: usize, to: usize);
-    fn release(&mut self, slot: usize);
-    fn length(&self, slot: usize) -> u32;
-    fn get(&self, slot: usize, index: u32) -> Result<u32, Refusal>;
-    /// -1, 0 or 1.
-    fn compare(&self, slot: usize, other: usize) -> i32;
-    fn free(&self) -> usize;
-    /// Opens a walk and takes from the back (true) or the front (false) as told, then closes it.
-    fn walk(&mut self, slot: usize, ends: &[bool]) -> Vec<Result<u32, Refusal>>;
-}
+    fn batch(&mut self, frames: &[Frame]) -> Vec<Answer>;
 
-/// The subject's list at `slot` becomes what an edit made of it at `other`, and the two slots swap their parts.
-pub fn replace(subject: &mut dyn Subject, slot: &mut usize, other: &mut usize) {
-    subject.release(*slot);
-    std::mem::swap(slot, other);
-}
-
-/// The element that scripts put at an index; no two are equal.
-pub fn element(index: u32) -> u32 {
-    index.wrapping_mul(2_654_435_761)
-}
-
-/// Fills `slot` with so many elements, by pushes. `spare` is an empty slot.
-pub fn fill(subject: &mut dyn Subject, slot: usize, spare: usize, bits: u32, values: &[u32]) {
-    let (mut at, mut other) = (slot, spare);
-    if values.len() % 2 == 1 {
-        std::mem::swap(&mut at, &mut other);
+    /// A batch of its own for each.
+    fn each(&mut self, frames: &[Frame]) -> Vec<Answer> {
+        let answers = frames.iter().flat_map(|frame| self.batch(&[*frame]));
+        answers.collect()
     }
-    subject.new_list(at, bits).expect("a node is free");
-    for value in values {
-        subject.push(at, other, *value).expect("nodes are free");
-        replace(subject, &mut at, &mut other);
+
+    /// The same for frames that a script relies on.
+    fn done(&mut self, frames: &[Frame]) {
+        let answers = self.each(frames);
+        let numbers = frames.iter().zip(answers.iter().map(|it| it.number));
+        for (frame, number) in numbers {
+            assert_eq!(number, DONE, "{frame:?}");
+        }
     }
+}
+
+#[cfg(feature = "original")]
+impl Subject for session::state::State {
+    fn batch(&mut self, frames: &[Frame]) -> Vec<Answer> {
+        frames.iter().map(|frame| self.serve(frame)).collect()
+    }
+}
+
+/// Free nodes, as the host may ask.
+pub fn free_nodes() -> Frame {
+    Frame::of(HOST, FREE_NODES, 0, 0)
 }

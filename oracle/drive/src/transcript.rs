@@ -1,5 +1,7 @@
 //! Rows of answers. Two subjects that run one script must write the same rows; a file keeps some of them and a checksum of all.
 
+use frames::Answer;
+
 /// The 64-bit FNV-1a checksum.
 #[derive(Clone, Copy)]
 pub struct Fnv1a(pub u64);
@@ -17,13 +19,9 @@ impl Fnv1a {
         }
     }
 
-    pub fn feed_answer(&mut self, answer: Result<u32, u32>) {
-        let (number, value) = match answer {
-            Ok(value) => (0, value),
-            Err(number) => (number as u8, 0),
-        };
-        self.feed(&[number]);
-        self.feed(&value.to_be_bytes());
+    pub fn feed_answer(&mut self, answer: &Answer) {
+        self.feed(&[answer.number]);
+        self.feed(&answer.value.to_be_bytes());
     }
 }
 

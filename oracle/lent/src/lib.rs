@@ -1,6 +1,7 @@
-//! The lent state of document 01 as owned slices, any bytes whatever, and what can be read from it.
+//! The lent state of document 01 as owned slices, any bytes whatever; what can be read from it, and the exported calls on it.
 
-pub mod link;
+pub mod ffi;
+mod serve;
 
 use formulas::height;
 

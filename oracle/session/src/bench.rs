@@ -1,9 +1,8 @@
 //! `session bench`: the program beside the model, over one input, by turns.
 
-use crate::frame::Frame;
 use crate::lines;
-use crate::numbers::POOL;
-use crate::state::State;
+use crate::state::{State, POOL};
+use frames::Frame;
 use std::fs::{self, File};
 use std::hint::black_box;
 use std::io;

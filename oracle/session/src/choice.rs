@@ -1,10 +1,10 @@
 //! Frames chosen from what is live, so that most of them are done.
 
-use crate::frame::Frame;
-use crate::numbers::*;
 use crate::places::Place;
-use crate::rng::Rng;
 use crate::state::State;
+use frames::numbers::*;
+use frames::rng::Rng;
+use frames::Frame;
 
 /// How often each operation is chosen, from 00 to 10.
 const WEIGHTS: [usize; OPERATIONS] = [3, 4, 10, 3, 6, 8, 12, 7, 4, 7, 7, 3, 3, 3, 3, 3, 6];

@@ -1,9 +1,9 @@
 //! `session count`: how often each operation and each number occurs in an input, and how far its lists go.
 
 use crate::lines;
-use crate::numbers::*;
 use crate::places::Places;
 use formulas::BITS;
+use frames::numbers::*;
 use original::vector::probe;
 use std::fmt;
 

@@ -1,7 +1,7 @@
 //! Inputs at the edges of what a line is.
 
-use crate::frame::Frame;
-use crate::mix;
+use frames::grown::grown;
+use frames::Frame;
 
 /// By party 1, done if its slot 0 is empty; bits 5.
 const NEW_LIST: &[u8] = b"010000000000000500000000";
@@ -118,8 +118,7 @@ fn long_line(ended: bool) -> Vec<u8> {
 
 /// A line's length and a read's have no common divisor.
 fn every_place_of_a_read() -> Vec<u8> {
-    let (frames, _) = mix::grown(2_100);
-    frames
+    grown(1, 5, 2_100)
         .iter()
         .map(Frame::line)
         .collect::<String>()

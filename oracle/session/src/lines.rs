@@ -1,8 +1,7 @@
 //! `session answer`: the program's answers to any input.
 
-use crate::frame::{Answer, Frame};
-use crate::numbers::POOL;
-use crate::state::State;
+use crate::state::{State, POOL};
+use frames::{Answer, Frame};
 
 /// The lines of an input with their line feeds, and a last piece without one unless it is empty.
 pub fn lines(input: &[u8]) -> impl Iterator<Item = &[u8]> {

@@ -1,11 +1,11 @@
 //! `session make`: lines that a seed decides. The state is run beside them, so that frames name what is live and lists grow long.
 
 use crate::choice;
-use crate::frame::{Answer, Frame};
-use crate::numbers::*;
-use crate::rng::Rng;
 use crate::spoil;
-use crate::state::State;
+use crate::state::{State, POOL};
+use frames::numbers::*;
+use frames::rng::Rng;
+use frames::{Answer, Frame};
 
 /// A slot of a party.
 pub type Held = (u8, u8);

@@ -1,8 +1,9 @@
 //! `session mix`: frames that read one list, by index and by walks, to measure with.
 
-use crate::frame::Frame;
-use crate::numbers::*;
-use crate::rng::Rng;
+use frames::grown::{grown, LIST};
+use frames::numbers::*;
+use frames::rng::Rng;
+use frames::Frame;
 
 const SEED: u64 = 1;
 const LENGTH: u32 = 2_000;
@@ -10,38 +11,13 @@ const PARTY: u8 = 1;
 const BITS: u32 = 5;
 
 fn frame(operation: u8, slot: u8, destination: u8) -> Frame {
-    Frame {
-        party: PARTY,
-        operation,
-        slot,
-        destination,
-        ..Frame::default()
-    }
-}
-
-/// A list pushed to from slot to slot until it has the length, and the slot where it is then.
-pub fn grown(length: u32) -> (Vec<Frame>, u8) {
-    let mut frames = vec![Frame {
-        index: BITS,
-        ..frame(NEW, 0, 0)
-    }];
-    let (mut from, mut to) = (0, 1);
-    for number in 0..length {
-        let value = number.wrapping_mul(0x9e37_79b9);
-        frames.push(Frame {
-            value,
-            ..frame(PUSH_BACK, from, to)
-        });
-        frames.push(frame(RELEASE, from, 0));
-        (from, to) = (to, from);
-    }
-    (frames, from)
+    Frame::of(PARTY, operation, slot, destination)
 }
 
 /// After the list is grown every second frame, about, gets an element at random; the others step two walks, each from both ends to its end and then anew.
 pub fn mix(count: usize) -> Vec<u8> {
-    let (mut frames, slot) = grown(LENGTH);
-    frames.extend((0..WALKS).map(|walk| frame(OPEN_WALK, slot, walk)));
+    let mut frames = grown(PARTY, BITS, LENGTH);
+    frames.extend((0..WALKS).map(|walk| frame(OPEN_WALK, LIST, walk)));
     let mut left = [LENGTH; WALKS as usize];
     let mut rng = Rng::new(SEED);
     while frames.len() < count {
@@ -51,14 +27,14 @@ pub fn mix(count: usize) -> Vec<u8> {
             let index = rng.below(LENGTH as usize) as u32;
             frames.push(Frame {
                 index,
-                ..frame(GET, slot, 0)
+                ..frame(GET, LIST, 0)
             });
         } else if *left > 0 {
             frames.push(frame(rng.of(&[NEXT, NEXT_BACK]), walk, 0));
             *left -= 1;
         } else {
             frames.push(frame(CLOSE_WALK, walk, 0));
-            frames.push(frame(OPEN_WALK, slot, walk));
+            frames.push(frame(OPEN_WALK, LIST, walk));
             *left = LENGTH;
         }
     }

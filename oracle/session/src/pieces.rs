@@ -1,7 +1,7 @@
 //! How an input is cut into the pieces that are fed.
 
 use crate::child::Way;
-use crate::rng::Rng;
+use frames::rng::Rng;
 
 /// The most bytes that the program reads at once; more of a datagram would be lost.
 const READ: usize = 4096;

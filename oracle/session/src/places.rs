@@ -1,7 +1,7 @@
 //! The slots and walks that a frame names, by the fields that its operation uses.
 
-use crate::frame::Frame;
-use crate::numbers::*;
+use frames::numbers::*;
+use frames::Frame;
 
 #[derive(Clone, Copy, Debug, PartialEq, Eq)]
 pub enum Place {

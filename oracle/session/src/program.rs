@@ -3,8 +3,8 @@
 use crate::child::{self, Way};
 use crate::edges::edges;
 use crate::pieces::{Cut, WAYS};
-use crate::rng::Rng;
 use crate::{lines, make, manners};
+use frames::rng::Rng;
 use std::io;
 use std::ops::Range;
 use std::path::Path;

@@ -1,9 +1,9 @@
 //! What a made session goes through, again and again: a list grown past the lengths where its shape changes, walked, and dropped to nothing; lists compared; a pool filled; and anything between.
 
 use crate::choice;
-use crate::frame::Frame;
 use crate::make::{Held, Maker};
-use crate::numbers::*;
+use frames::numbers::*;
+use frames::Frame;
 
 const BITS: usize = 5;
 /// Bits at which 1,025 elements and their path fit in the pool.

@@ -1,10 +1,10 @@
 //! Frames that are mostly refused, and lines that aren't frames.
 
 use crate::choice;
-use crate::frame::Frame;
-use crate::numbers::*;
-use crate::rng::Rng;
 use crate::state::State;
+use frames::numbers::*;
+use frames::rng::Rng;
+use frames::Frame;
 
 const BYTES: [u8; 12] = [0, 1, 2, 7, 8, 9, 15, 16, 17, 0x7F, 0x80, 0xFF];
 /// Some are in range if only their last byte or half is looked at.

@@ -2,12 +2,15 @@
 //!
 //! Costs come from the original itself. Each of its nodes is live exactly while a list in a slot or in a walk reaches it, so free nodes are the pool less `CountingK::live`. Fresh is the rise of the live nodes over a call, whose source is still held; the charge is the nodes allocated in it, for a drop the whole path, copied first. Document 01 says the same of both, which the tests check by its formulas, as they check the free nodes by walking all lists.
 
-use crate::frame::{Answer, Frame};
-use crate::numbers::*;
 use crate::places::{Place, Places};
 use crate::walk::{End, List, Walk};
 use archery::CountingK;
 use formulas::{BITS, LENGTH_LIMIT};
+use frames::numbers::*;
+use frames::{Answer, Frame};
+
+/// The nodes of the program's state.
+pub const POOL: usize = 256;
 
 #[derive(Default)]
 struct Party {

@@ -2,7 +2,7 @@
 
 use super::row::{Row, Work};
 use super::runner::{sum_in_order, Runner};
-use crate::scenes::element;
+use frames::grown::element;
 use original::Vector;
 use std::cmp::Ordering;
 use std::hint::black_box;

@@ -2,7 +2,7 @@
 
 use super::row::{Row, Work};
 use super::runner::Runner;
-use crate::scenes::element;
+use frames::grown::element;
 use std::ffi::{c_char, c_int, c_void, CString};
 use std::mem::transmute;
 

@@ -3,9 +3,8 @@
 use super::instructions::jumperloft_counted;
 use super::row::{Row, Work};
 use super::runner::{sum_in_order, Runner};
-use crate::ffi;
-use lent::{Lent, SLOTS};
-use session::frame::Frame;
+use frames::Frame;
+use lent::{ffi, Lent, SLOTS};
 
 const ANSWER: usize = 6;
 
@@ -21,8 +20,7 @@ pub struct Ours {
 
 impl Ours {
     pub fn new(row: Row) -> Ours {
-        let mut before = Lent::unformed(row.pool);
-        assert_eq!(ffi::form(&mut before).number, 0);
+        let mut before = Lent::formed(row.pool);
         let mut room = Vec::new();
         send(&mut before, &bytes(&row.frames_before()), &mut room);
         let batch = (row.work != Work::Form).then(|| bytes(&row.frames()));

@@ -1,10 +1,11 @@
 //! The rows of the table: what is done, how often, and by which frames.
 
-use crate::scenes::{frame, Beside, Scene, LIST};
+use crate::scenes::{frame, Beside, Scene};
 use formulas::LENGTH_LIMIT;
-use session::frame::Frame;
-use session::numbers::*;
-use session::rng::Rng;
+use frames::grown::LIST;
+use frames::numbers::*;
+use frames::rng::Rng;
+use frames::Frame;
 
 /// The largest pool there is.
 const LARGE: usize = 65_536;

@@ -1,8 +1,14 @@
-//! A frame and an answer, as bytes and as lines of hexadecimal.
+//! A frame and an answer, as bytes and as lines of hexadecimal; what frames are made from.
 
-use crate::numbers::{DONE, NOT_A_FRAME};
+pub mod grown;
+pub mod numbers;
+pub mod rng;
 
-const DIGITS: usize = 24;
+use numbers::{DONE, HAND_OVER, HOST, NOT_A_FRAME};
+
+pub const FRAME_SIZE: usize = 12;
+pub const ANSWER_SIZE: usize = 6;
+const DIGITS: usize = 2 * FRAME_SIZE;
 
 #[derive(Clone, Copy, Debug, Default, PartialEq, Eq)]
 pub struct Frame {
@@ -15,17 +21,37 @@ pub struct Frame {
 }
 
 impl Frame {
+    /// Index and value are 0.
+    pub fn of(party: u8, operation: u8, slot: u8, destination: u8) -> Frame {
+        Frame {
+            party,
+            operation,
+            slot,
+            destination,
+            ..Frame::default()
+        }
+    }
+
+    /// The list in a slot of one party, to a slot of another.
+    pub fn hand_over((from, slot): (u8, u8), (to, destination): (u8, u8)) -> Frame {
+        Frame {
+            index: u32::from(from),
+            value: u32::from(to),
+            ..Frame::of(HOST, HAND_OVER, slot, destination)
+        }
+    }
+
     /// None for every line, its line feed included, that isn't a frame.
     pub fn of_line(line: &[u8]) -> Option<Frame> {
         let digits: &[u8; DIGITS] = line.strip_suffix(b"\n")?.try_into().ok()?;
-        let mut bytes = [0; DIGITS / 2];
+        let mut bytes = [0; FRAME_SIZE];
         for (byte, pair) in bytes.iter_mut().zip(digits.chunks(2)) {
             *byte = 16 * digit(pair[0])? + digit(pair[1])?;
         }
         Some(Frame::of_bytes(bytes))
     }
 
-    pub fn of_bytes(bytes: [u8; DIGITS / 2]) -> Frame {
+    pub fn of_bytes(bytes: [u8; FRAME_SIZE]) -> Frame {
         let [party, operation, slot, destination, i0, i1, i2, i3, v0, v1, v2, v3] = bytes;
         Frame {
             party,
@@ -37,8 +63,8 @@ impl Frame {
         }
     }
 
-    pub fn bytes(&self) -> [u8; DIGITS / 2] {
-        let mut bytes = [0; DIGITS / 2];
+    pub fn bytes(&self) -> [u8; FRAME_SIZE] {
+        let mut bytes = [0; FRAME_SIZE];
         bytes[..4].copy_from_slice(&[self.party, self.operation, self.slot, self.destination]);
         bytes[4..8].copy_from_slice(&self.index.to_be_bytes());
         bytes[8..].copy_from_slice(&self.value.to_be_bytes());
@@ -95,7 +121,16 @@ impl Answer {
         }
     }
 
-    pub fn bytes(&self) -> [u8; 6] {
+    pub fn of_bytes(bytes: [u8; ANSWER_SIZE]) -> Answer {
+        let [number, fresh, v0, v1, v2, v3] = bytes;
+        Answer {
+            number,
+            fresh,
+            value: u32::from_be_bytes([v0, v1, v2, v3]),
+        }
+    }
+
+    pub fn bytes(&self) -> [u8; ANSWER_SIZE] {
         let [v0, v1, v2, v3] = self.value.to_be_bytes();
         [self.number, self.fresh, v0, v1, v2, v3]
     }
@@ -123,6 +158,13 @@ mod tests {
         assert_eq!((frame.index, frame.value), (0xDEAD_BEEF, 0xABCD));
         assert_eq!(frame.line().as_bytes(), line);
         assert_eq!(Frame::of_bytes(frame.bytes()), frame);
+    }
+
+    #[test]
+    fn an_answers_bytes_are_read_back() {
+        let answer = Answer::done(2, 0xDEAD_BEEF);
+        assert_eq!(answer.bytes(), [0, 2, 0xDE, 0xAD, 0xBE, 0xEF]);
+        assert_eq!(Answer::of_bytes(answer.bytes()), answer);
     }
 
     #[test]

@@ -1,4 +1,4 @@
-//! Document 01's operations, the numbers given back, and the sizes of the program's state.
+//! Document 01's operations, the numbers given back, and what each party has.
 
 pub const NEW: u8 = 0x00;
 pub const CLONE: u8 = 0x01;
@@ -31,11 +31,12 @@ pub const BAD_BITS: u8 = 7;
 pub const NOTHING_THERE: u8 = 8;
 pub const FULL: u8 = 9;
 pub const NO_NODES: u8 = 10;
+pub const ILL_FORMED: u8 = 11;
+pub const NO_ROOM: u8 = 12;
+pub const RAGGED: u8 = 13;
 pub const NOT_A_FRAME: u8 = 14;
 
 pub const HOST: u8 = 0;
 pub const PARTIES: u8 = 8;
 pub const SLOTS: u8 = 8;
 pub const WALKS: u8 = 2;
-/// The nodes of the program's state.
-pub const POOL: usize = 256;

@@ -1,6 +1,6 @@
-//! The exported calls of the crate `host`. Nothing else of this program is unsafe but the loading of im-rc's library for the bench.
+//! The exported calls of the crate `host`. What is unsafe about them stands here.
 
-use lent::{Lent, Version, VERSION_NUMBERS};
+use crate::{Lent, Version, VERSION_NUMBERS};
 
 /// The number given back, and how many frames ran.
 #[repr(C)]
