@@ -76,10 +76,12 @@ pub push-short : (s : Store) (v : VersionRecord) (x h : ℕ) → v .length < max
 unfolding pushCall pushCost plain
 push-short s v x h l p f = rw (lt-leb maxLength (v .length) l, lt-ltb (s .free) (height (v .bits) (v .length + 1) + 1) (omega arith))
 
-pub push-done : (s : Store) (v : VersionRecord) (x h : ℕ) → v .length < maxLength → h ≡ height (v .bits) (v .length + 1) → h + 1 ≤ s .free
-    → done (s .free) (pushEdit s v x) ≡ pushCall s v x
+pub push-done : (s : Store) (v : VersionRecord) (x h : ℕ) (n : Nodes) (c o : List ℕ) (left m : ℕ) (r : Edited) → v .length < maxLength → h ≡ height (v .bits) (v .length + 1) → h + 1 ≤ s .free
+    → edit (madeOf (storeAt n c o left) m) (v .bits) (v .length + 1) ≡ pushEdit s v x → r ≡ doneWith m (v .bits) (v .length + 1) (s .free) left
+    → answered n c o (s .free) r ≡ pushCall s v x
 unfolding pushCall pushCost plain
-push-done s v x h l p f = rw (lt-leb maxLength (v .length) l, le-ltb (s .free) (height (v .bits) (v .length + 1) + 1) (omega arith))
+push-done s v x h n c o left m r l p f e q =
+    done-answered n c o (s .free) left m (v .bits) (v .length + 1) (pushEdit s v x) r e q ∙ rw (lt-leb maxLength (v .length) l, le-ltb (s .free) (height (v .bits) (v .length + 1) + 1) (omega arith))
 
 -- ---- drop
 

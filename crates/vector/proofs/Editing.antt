@@ -1,10 +1,11 @@
 -- A call that is not refused: its path can be copied, and what it makes is the model's edit.
-use mathlib.Core.Path.{_≡_, refl, ap, _∙_}
+use mathlib.Core.Path.{_≡_, refl, sym, ap, _∙_}
 use mathlib.Core.Bool.{Bool, true, false, cond, _&&_}
 use mathlib.Core.List.{List}
 use Prim.Native.Nat.{ℕ, zero, suc, _+_, _-_, _*_, _^_, _≤_, _<_}
 use native.Mathlib.Nat.{suc-mul, div-self, pos-of-ne-zero}
 use native.Mathlib.Omega.{arith}
+use mir.Val.{boolByte}
 use borrow.Author.Tests.{leb-true, eqb-true, eq-eqb, ne-eqb}
 use lib.Dec.{leb, eqb}
 use lib.ListN.{length, drop, getD, length-drop}
@@ -17,6 +18,7 @@ use Rattle.meaning.specs.Trees.{heightOf}
 use Rattle.meaning.specs.Costs.{losesRoot}
 use Rattle.meaning.specs.WellFormed.{LegalBits}
 use Rattle.meaning.proofs.Booleans.{both-true}
+use Rattle.shape.specs.Legal.{Legal}
 use Rattle.shape.proofs.Powers.{power-positive, power-doubles}
 use Rattle.shape.proofs.Buckets.{bucket-top}
 use Rattle.shape.proofs.Growth.{height-push}
@@ -56,17 +58,20 @@ pub set-ready : (s : Store) (v : VersionRecord) (i h : ℕ) → Editable s v (Se
     → Ready s (v .bits) h (Way s (v .bits) h true (v .root) i)
 set-ready s v i h e p b l f = ready-at s (v .bits) h (e .steady) (e .legal .bits) (omega (arith, b .1)) (omega (arith, b .0)) (omega arith) (rw p (e .way l))
 
-pub push-can : (s : Store) (v : VersionRecord) (h h′ : ℕ) → Editable s v (PushWay s v) → h ≡ heightOf v → Low (v .bits) h → v .length < maxLength
-    → h′ ≡ height (v .bits) (v .length + 1) → h′ + 1 ≤ s .free → CanPush s v h (v .length + 1)
-push-can s v h h′ e p b l q f =
+-- the height with one element more, as the code adds it up
+pub push-height : (b n h : ℕ) (full : Bool) → Legal b n → h ≡ height b n → full ≡ isRootFull b n → (h + boolByte full ≡ height b (n + 1)) × (boolByte full ≤ 1)
+push-height b n h true z p q = (omega (arith, height-push b n (z .bits .least) (omega arith), ap bit q), omega arith)
+push-height b n h false z p q = (omega (arith, height-push b n (z .bits .least) (omega arith), ap bit q), omega arith)
+
+pub push-can : (s : Store) (v : VersionRecord) (h : ℕ) (full : Bool) → Editable s v (PushWay s v) → h ≡ heightOf v → Low (v .bits) h → v .length < maxLength
+    → full ≡ isRootFull (v .bits) (v .length) → h + boolByte full + 1 ≤ s .free → CanPush s v h full
+push-can s v h full e p b l q f =
     let legal = e .legal .bits in
-    let up : h′ ≡ height (v .bits) (v .length) + bit (isRootFull (v .bits) (v .length)) = q ∙ height-push (v .bits) (v .length) (legal .least) (omega arith) in
     record {
-      legal = record { bits = legal; length = omega arith };
-      next = refl;
       height = p;
-      within = λ t. ready-at s (v .bits) h (e .steady) legal (omega (arith, b .1)) (omega (arith, b .0)) (omega (arith, up, ap bit t)) (rw p (e .way .within l t));
-      beyond = λ t. ready-at s (v .bits) (suc h) (e .steady) legal (omega (arith, b .1, suc-mul h (v .bits), legal .most)) (omega (arith, b .0)) (omega (arith, up, ap bit t)) (rw p (e .way .beyond l t));
+      root = q;
+      within = λ t. ready-at s (v .bits) h (e .steady) legal (omega (arith, b .1)) (omega (arith, b .0)) (omega (arith, ap boolByte t)) (rw p (e .way .within l (sym q ∙ t)));
+      beyond = λ t. ready-at s (v .bits) (suc h) (e .steady) legal (omega (arith, b .1, suc-mul h (v .bits), legal .most)) (omega (arith, b .0)) (omega (arith, ap boolByte t)) (rw p (e .way .beyond l (sym q ∙ t)));
     }
 
 pub drop-can : (s : Store) (v : VersionRecord) (h : ℕ) → Editable s v (DropWay s v) → h ≡ heightOf v → Low (v .bits) h → (v .length ≡ 0 → ⊥) → h + 1 ≤ s .free
@@ -121,15 +126,15 @@ pub set-made : (s : Store) (v : VersionRecord) (i x h : ℕ) (d : Made) → h �
 unfolding setEdit
 set-made s v i x h d p e = ap (λ (m : Made). edit m (v .bits) (v .length)) e ∙ rw p
 
-pub push-grown : (s : Store) (v : VersionRecord) (x h n : ℕ) (d : Made) → n ≡ v .length + 1 → h ≡ heightOf v → isRootFull (v .bits) (v .length) ≡ true
-    → d ≡ grow s (v .bits) h (v .root) (v .length) x → edit d (v .bits) n ≡ pushEdit s v x
+pub push-grown : (s : Store) (v : VersionRecord) (x h : ℕ) (full : Bool) (d : Made) → CanPush s v h full → full ≡ true
+    → d ≡ grow s (v .bits) h (v .root) (v .length) x → edit d (v .bits) (v .length + 1) ≡ pushEdit s v x
 unfolding pushEdit
-push-grown s v x h n d l p t e = ap (λ (m : Made). edit m (v .bits) n) e ∙ rw (p, t, l)
+push-grown s v x h full d can t e = ap (λ (m : Made). edit m (v .bits) (v .length + 1)) e ∙ rw (can .height, ← can .root, t)
 
-pub push-made : (s : Store) (v : VersionRecord) (x h n : ℕ) (d : Made) → n ≡ v .length + 1 → h ≡ heightOf v → isRootFull (v .bits) (v .length) ≡ false
-    → d ≡ assoc s (v .bits) h true (v .root) (v .length) x → edit d (v .bits) n ≡ pushEdit s v x
+pub push-made : (s : Store) (v : VersionRecord) (x h : ℕ) (full : Bool) (d : Made) → CanPush s v h full → full ≡ false
+    → d ≡ assoc s (v .bits) h true (v .root) (v .length) x → edit d (v .bits) (v .length + 1) ≡ pushEdit s v x
 unfolding pushEdit
-push-made s v x h n d l p t e = ap (λ (m : Made). edit m (v .bits) n) e ∙ rw (p, t, l)
+push-made s v x h full d can t e = ap (λ (m : Made). edit m (v .bits) (v .length + 1)) e ∙ rw (can .height, ← can .root, t)
 
 pub drop-only : (s : Store) (v : VersionRecord) (d : Made) → v .length ≡ 1 → d ≡ emptyLeaf s → edit d (v .bits) (v .length - 1) ≡ dropEdit s v
 unfolding dropEdit
@@ -152,6 +157,9 @@ drop-made s v h d p ne t e =
 
 -- ---- what is left free
 
+abbrev madeIn : Edit → Made
+madeIn e = madeOf (e .store) (e .version .root)
+
 pub new-fell : (s s′ : Store) (m : ℕ) → madeOf s′ m ≡ emptyLeaf s → Fell (s .free) (s′ .free)
 unfolding emptyLeaf make
 new-fell s s′ m e = let f : s′ .free ≡ s .free - 1 = ap (λ (d : Made). d .store .free) e in record { most = omega arith; least = omega arith }
@@ -169,6 +177,12 @@ grow-fell s s′ bits h n i x m r e =
     let k = assoc-free s bits h false 0 i x in
     let l = height-small s bits (suc h) r in
     record { most = omega (arith, f); least = omega (arith, f) }
+
+pub push-fell : (s s′ : Store) (v : VersionRecord) (h : ℕ) (full : Bool) (m bits n x : ℕ) → CanPush s v h full → edit (madeOf s′ m) bits n ≡ pushEdit s v x
+    → Fell (s .free) (s′ .free)
+unfolding pushEdit
+push-fell s s′ v h true m bits n x can e = grow-fell s s′ (v .bits) h (v .root) (v .length) x m (can .beyond refl) (ap madeIn e ∙ rw (can .height, ← can .root))
+push-fell s s′ v h false m bits n x can e = set-fell s s′ (v .bits) h true (v .root) (v .length) x m (can .within refl) (ap madeIn e ∙ rw (can .height, ← can .root))
 
 pub drop-fell : (s s′ : Store) (v : VersionRecord) (h m bits n : ℕ) → CanDrop s v h → edit (madeOf s′ m) bits n ≡ dropEdit s v
     → Fell (s .free) (s′ .free)

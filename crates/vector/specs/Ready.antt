@@ -1,6 +1,6 @@
 -- What the calls require. Each record of a version is asked for only what a call that is not refused reaches.
 use mathlib.Core.Path.{_≡_}
-use mathlib.Core.Bool.{true, false}
+use mathlib.Core.Bool.{Bool, true, false}
 use mathlib.Core.List.{List}
 use Prim.Native.Nat.{ℕ, suc, _+_, _-_, _*_, _≤_, _<_}
 use lib.ListN.{length, take}
@@ -49,13 +49,12 @@ DropWay s v = 1 ≤ v .length → WayToLast s (v .bits) (heightOf v) (v .root) (
 
 -- ---- a call that is not refused, at height h
 
--- to a length of n
-pub record CanPush (s : Store) (v : VersionRecord) (h n : ℕ) : Type 0 where
-  pub legal : Legal (v .bits) n
-  pub next : n ≡ v .length + 1
+-- over a root that is full or isn't
+pub record CanPush (s : Store) (v : VersionRecord) (h : ℕ) (full : Bool) : Type 0 where
   pub height : h ≡ heightOf v
-  pub within : isRootFull (v .bits) (v .length) ≡ false → Ready s (v .bits) h (Way s (v .bits) h true (v .root) (v .length))
-  pub beyond : isRootFull (v .bits) (v .length) ≡ true → Ready s (v .bits) (suc h) (WayBeyond s (v .bits) h (v .root) (v .length))
+  pub root : full ≡ isRootFull (v .bits) (v .length)
+  pub within : full ≡ false → Ready s (v .bits) h (Way s (v .bits) h true (v .root) (v .length))
+  pub beyond : full ≡ true → Ready s (v .bits) (suc h) (WayBeyond s (v .bits) h (v .root) (v .length))
 
 pub record CanDrop (s : Store) (v : VersionRecord) (h : ℕ) : Type 0 where
   pub legal : Legal (v .bits) (v .length)

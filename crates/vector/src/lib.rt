@@ -13,7 +13,7 @@ ghost use Rattle.sweep.specs.Sweep.{release};
 ghost use Rattle.sweep.specs.Ready.{storeOn, Releasable};
 ghost use Rattle.paths.specs.Edits.{edit, shareEdit, pushEdit, dropEdit};
 ghost use Rattle.paths.specs.Ready.{madeOf};
-ghost use Rattle.vector.specs.Calls.{doneWith, calledOf, done, newCall, setCall, pushCall, dropCall};
+ghost use Rattle.vector.specs.Calls.{doneWith, calledOf, newCall, setCall, pushCall, dropCall};
 ghost use Rattle.vector.specs.Ready.{editOf, Linkable, Steady, Editable, SetWay, PushWay, DropWay, CanPush, CanDrop, Fell};
 
 const MAX_BITS: u32 = 5;
@@ -131,16 +131,17 @@ fn pushed(
     supply: Supply,
     v: Version,
     h: u32,
-    length: u32,
+    full: bool,
     value: u32,
-) -> Edited
-    requires { ⌜ CanPush (storeOf (now kinds) (now used) (now counts) (now cells) (now order) (supply .free)) (recordOf v) h length ⌝ }
-    ensures { λ r. ⌜ calledOf (now (kinds .exit)) (now (used .exit)) (now (counts .exit)) (now (cells .exit)) (now (order .entry)) (supply .free) r
-        ≡ done (supply .free) (pushEdit (storeOf (now (kinds .entry)) (now (used .entry)) (now (counts .entry)) (now (cells .entry)) (now (order .entry)) (supply .free)) (recordOf v) value) ⌝ }
+) -> Made
+    requires { ⌜ CanPush (storeOf (now kinds) (now used) (now counts) (now cells) (now order) (supply .free)) (recordOf v) h full ⌝ }
+    ensures { λ r. ⌜ edit (madeOf (storeOf (now (kinds .exit)) (now (used .exit)) (now (counts .exit)) (now (cells .exit)) (now (order .entry)) (r .free)) (r .node .0)) (v .bits) (v .length + 1)
+        ≡ pushEdit (storeOf (now (kinds .entry)) (now (used .entry)) (now (counts .entry)) (now (cells .entry)) (now (order .entry)) (supply .free)) (recordOf v) value ⌝ }
 {
+    let root = NodeNo(v.root);
     let index = v.length;
-    if shape::is_root_full(v.bits, index) {
-        let made = paths::grow(
+    if full {
+        return paths::grow(
             kinds,
             used,
             counts,
@@ -149,13 +150,12 @@ fn pushed(
             supply.free,
             v.bits,
             h,
-            NodeNo(v.root),
+            root,
             index,
             value,
         );
-        return done(made, supply, v.bits, length);
     }
-    let made = paths::assoc(
+    paths::assoc(
         kinds,
         used,
         counts,
@@ -165,11 +165,10 @@ fn pushed(
         v.bits,
         h,
         true,
-        NodeNo(v.root),
+        root,
         index,
         value,
-    );
-    done(made, supply, v.bits, length)
+    )
 }
 
 pub fn push_back(
@@ -191,22 +190,14 @@ pub fn push_back(
         return Edited::Full;
     }
     let length = v.length + 1;
-    if supply.free < shape::height(v.bits, length) as usize + 1 {
+    let h = shape::height(v.bits, v.length);
+    let full = shape::is_root_full(v.bits, v.length);
+    let new_height = h + full as u32;
+    if supply.free < new_height as usize + 1 {
         return Edited::NoNodes;
     }
-    let h = shape::height(v.bits, v.length);
-    pushed(
-        kinds,
-        used,
-        counts,
-        cells,
-        order,
-        supply,
-        v,
-        h,
-        length,
-        value,
-    )
+    let r = pushed(kinds, used, counts, cells, order, supply, v, h, full, value);
+    done(r, supply, v.bits, length)
 }
 
 // The way to the last index without it; an empty leaf for the only one; where the root would keep one child, that child.

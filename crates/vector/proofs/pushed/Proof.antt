@@ -1,19 +1,11 @@
-use Rattle.vector.proofs.Editing.{push-grown, push-made, grow-fell, set-fell}
-use Rattle.vector.proofs.Answering.{done-answered}
-use mathlib.Core.Path.{sym, _∙_}
+use Rattle.vector.proofs.Editing.{push-grown, push-made}
 use Rattle.records.specs.Records.{recordOf}
 use borrow.Author.Needs.{needs}
 use Rattle.vector.proofs.pushed.Statement.{statement}
 use Rattle.vector.proofs.pushed.Tie as tie
 
-is-root-full-requires : tie.Need-is-root-full-requires
-is-root-full-requires c κs = search needs
-
 grow-requires : tie.Need-grow-requires
-grow-requires c κs = c .before .before .before .before .before .before .before .before .before .before .before .pre .beyond (sym (c .before .before .before .before .before .is-root-full .ensures) ∙ c .before .before .before .before .if1 .taken)
-
-done-requires : tie.Need-done-requires
-done-requires c κs = grow-fell _ _ _ _ _ _ _ _ (c .before .before .before .before .before .before .before .before .before .before .before .before .before .before .before .before .before .before .before .before .pre .beyond (sym (c .before .before .before .before .before .before .before .before .before .before .before .before .before .before .is-root-full .ensures) ∙ c .before .before .before .before .before .before .before .before .before .before .before .before .before .if1 .taken)) (c .before .before .before .before .before .before .before .before .grow .ensures)
+grow-requires c κs = c .before .before .before .before .before .before .before .before .before .before .pre .beyond (c .before .before .before .before .if1 .taken)
 
 same-length : tie.Need-same-length
 same-length c = search needs
@@ -28,13 +20,10 @@ same-length-4 : tie.Need-same-length-4
 same-length-4 c = search needs
 
 returns : tie.Need-returns
-returns c = let s = c .before .before .before .before .before .before .before .before .before .before .before .before .before .before .before .before .before .before .before .before .before in done-answered _ _ _ _ _ _ _ _ _ _ (push-grown _ (recordOf (s .args .v)) (s .args .value) _ _ _ (s .pre .next) (s .pre .height) (sym (c .before .before .before .before .before .before .before .before .before .before .before .before .before .before .before .is-root-full .ensures) ∙ c .before .before .before .before .before .before .before .before .before .before .before .before .before .before .if1 .taken) (c .before .before .before .before .before .before .before .before .before .grow .ensures)) (c .done .ensures)
+returns c = let s = c .before .before .before .before .before .before .before .before .before .before .before .before .before .before .before .before .before .before .before in push-grown _ (recordOf (s .args .v)) (s .args .value) _ _ _ (s .pre) (c .before .before .before .before .before .before .before .before .before .before .before .before .before .if1 .taken) (c .before .before .before .before .before .before .before .before .grow .ensures)
 
 assoc-requires : tie.Need-assoc-requires
-assoc-requires c κs = c .before .before .before .before .before .before .before .before .before .before .before .pre .within (sym (c .before .before .before .before .before .is-root-full .ensures) ∙ c .before .before .before .before .if1 .left)
-
-done-requires-2 : tie.Need-done-requires-2
-done-requires-2 c κs = set-fell _ _ _ _ _ _ _ _ _ (c .before .before .before .before .before .before .before .before .before .before .before .before .before .before .before .before .before .before .before .before .pre .within (sym (c .before .before .before .before .before .before .before .before .before .before .before .before .before .before .is-root-full .ensures) ∙ c .before .before .before .before .before .before .before .before .before .before .before .before .before .if1 .left)) (c .before .before .before .before .before .before .before .before .assoc .ensures)
+assoc-requires c κs = c .before .before .before .before .before .before .before .before .before .before .pre .within (c .before .before .before .before .if1 .left)
 
 same-length-5 : tie.Need-same-length-5
 same-length-5 c = search needs
@@ -49,22 +38,19 @@ same-length-8 : tie.Need-same-length-8
 same-length-8 c = search needs
 
 returns-2 : tie.Need-returns-2
-returns-2 c = let s = c .before .before .before .before .before .before .before .before .before .before .before .before .before .before .before .before .before .before .before .before .before in done-answered _ _ _ _ _ _ _ _ _ _ (push-made _ (recordOf (s .args .v)) (s .args .value) _ _ _ (s .pre .next) (s .pre .height) (sym (c .before .before .before .before .before .before .before .before .before .before .before .before .before .before .before .is-root-full .ensures) ∙ c .before .before .before .before .before .before .before .before .before .before .before .before .before .before .if1 .left) (c .before .before .before .before .before .before .before .before .before .assoc .ensures)) (c .done2 .ensures)
+returns-2 c = let s = c .before .before .before .before .before .before .before .before .before .before .before .before .before .before .before .before .before .before .before in push-made _ (recordOf (s .args .v)) (s .args .value) _ _ _ (s .pre) (c .before .before .before .before .before .before .before .before .before .before .before .before .before .if1 .left) (c .before .before .before .before .before .before .before .before .assoc .ensures)
 
 pub pushed-spec : {M : Type 1} → statement M
 pushed-spec =
     tie.close
     (tie.spec
-    is-root-full-requires
     grow-requires
-    done-requires
     same-length
     same-length-2
     same-length-3
     same-length-4
     returns
     assoc-requires
-    done-requires-2
     same-length-5
     same-length-6
     same-length-7
