@@ -64,7 +64,7 @@ class Bench:
             return "clock"
         if running.returncode == 0:
             return None
-        return "compiler" if re.search(r"(error|undefined reference|warning): ", said) else "test"
+        return "compiler" if re.search(r"(?<!runtime )error: |undefined reference", said) else "test"
 
 
 def main(make, library, folder, jobs="1", words=""):

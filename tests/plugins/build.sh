@@ -63,7 +63,7 @@ host() {
 host plain "$out/libhost.a"
 host rdynamic -rdynamic "$out/libhost.a"
 host exporting -rdynamic -DJUMPERLOFT1_CALL= "$out/libhost.a"
-host harmful -rdynamic -Wl,--exclude-libs,ALL -DEDITION=own "$here/harm.c" "$out/libown.a"
+host harmful -rdynamic -DEDITION=own "$here/harm.c" "$out/libown.a"
 
 # a plug-in calls batch alone; a call that is not made can't be hidden by the header
 exports() { nm -D --defined-only "$1" | grep -q " T jumperloft$2"; }
