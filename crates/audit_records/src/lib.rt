@@ -21,7 +21,7 @@ pub fn version_ok(
     if v.live == 0 {
         return (v.root == 0) & (v.bits == 0) & (v.length == 0);
     }
-    let most = meaning::max_length();
+    let most = limits::max_length();
     let legal = (v.live == 1)
         & (1 <= v.bits)
         & (v.bits <= audit_model::MAX_BITS)

@@ -1,9 +1,13 @@
 -- "Figures from both sides", by computation.
 use mathlib.Core.Path.{_≡_, refl}
 use mathlib.Core.List.{[], _∷_}
+use Prim.Native.Nat.{ℕ, suc}
 use lib.Count.{leadingZeros}
+use lib.ListN.{length, getD}
+use Rattle.meaning.specs.Limits.{NEW, CLONE, RELEASE, LEN, GET, SET, PUSH-BACK, DROP-LAST, OPEN-WALK, NEXT, NEXT-BACK, CLOSE-WALK, HAND-OVER, FREE-NODES, FIRST, LAST, COMPARE, lastOperation}
 use Rattle.meaning.specs.Counting.{sumTo, howMany, divides}
 use Rattle.meaning.specs.Shape.{degree, bitsToWrite, ifLeft, levels, height}
+use Rattle.meaning.specs.Operations.{Op, new, clone, release, len, get, set-at, push-back, drop-last, open-walk, next, next-back, close-walk, hand-over, free-nodes, first, last, compare, unknown, operations}
 use Rattle.meaning.specs.Costs.{dropFresh, dropCost}
 use Rattle.meaning.specs.Effects.{order, signed}
 
@@ -45,3 +49,18 @@ pruning = (refl, refl, refl)
 pub dropping : (dropCost 5 33 ≡ record { fresh = 0; charge = 2 }) × (dropCost 5 1025 ≡ record { fresh = 0; charge = 3 }) × (dropCost 5 65 ≡ record { fresh = 1; charge = 2 })
 unfolding height dropFresh dropCost degree bitsToWrite ifLeft levels divides howMany sumTo leadingZeros
 dropping = (refl, refl, refl)
+
+-- ---- the operations by their numbers
+
+abbrev opAt : ℕ → Op
+opAt n = getD operations n unknown
+
+-- a number is the place of its operation in the list, and there are no others
+pub numbered : (opAt NEW ≡ new) × (opAt CLONE ≡ clone) × (opAt RELEASE ≡ release) × (opAt LEN ≡ len)
+    × (opAt GET ≡ get) × (opAt SET ≡ set-at) × (opAt PUSH-BACK ≡ push-back) × (opAt DROP-LAST ≡ drop-last)
+    × (opAt OPEN-WALK ≡ open-walk) × (opAt NEXT ≡ next) × (opAt NEXT-BACK ≡ next-back) × (opAt CLOSE-WALK ≡ close-walk)
+    × (opAt HAND-OVER ≡ hand-over) × (opAt FREE-NODES ≡ free-nodes) × (opAt FIRST ≡ first) × (opAt LAST ≡ last)
+    × (opAt COMPARE ≡ compare)
+    × (length operations ≡ suc lastOperation)
+unfolding operations
+numbered = (refl, refl, refl, refl, refl, refl, refl, refl, refl, refl, refl, refl, refl, refl, refl, refl, refl, refl)

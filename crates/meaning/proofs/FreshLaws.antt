@@ -12,7 +12,7 @@ use lib.IntN.{pos}
 use lib.ListN.{length, replicate, length-replicate}
 use lib.Seq.{take-all}
 use borrow.Author.Tests.{lt-ltb, le-ltb, eq-eqb, ne-eqb}
-use Rattle.meaning.specs.Limits.{maxNodes, nodeCells, FREE, parties, partySlots, partyWalks, walkLevels, walkNumbers}
+use Rattle.meaning.specs.Limits.{maxNodes, nodeCells, FREE, versionCount, walkCount, allNumbers, places}
 use Rattle.meaning.specs.Counting.{bit, occurrences, rows}
 use Rattle.meaning.specs.Lent.{Nodes, closedRecord, emptyRecord, size, kindOf, isFree, freeNodes, freeOrder, childCount, walkRecord, walkRecords}
 use Rattle.meaning.specs.Links.{liveRoots, roots, cellLinks, links, Reached, byRoot, byCell}
@@ -55,11 +55,11 @@ zero-walk a b c n = simp replicate-at
 -- ---- the state
 
 module _ (N : ℕ) (cells : List ℕ) where
-  fresh-walks : walkRecords (freshState N cells) ≡ replicate (parties * partyWalks) closedRecord
+  fresh-walks : walkRecords (freshState N cells) ≡ replicate walkCount closedRecord
   unfolding freshState walkRecords
   fresh-walks =
-      rows-same (parties * partyWalks) _ closedRecord
-      (zero-walk (parties * partyWalks * walkNumbers) (parties * partyWalks * (2 * walkLevels)) (parties * partyWalks * (2 * walkLevels)))
+      rows-same walkCount _ closedRecord
+      (zero-walk allNumbers places places)
 
   fresh-roots : roots (freshState N cells) ≡ []
   unfolding roots liveRoots freshState
@@ -110,8 +110,8 @@ module _ (N : ℕ) (cells : List ℕ) where
       walkNodes = refl;
       walkIndices = refl;
     };
-    versions = each-replicate (LegalVersion _) (parties * partySlots) emptyRecord (inl refl);
-    walks = rw fresh-walks (each-replicate (LegalWalk _) (parties * partyWalks) closedRecord (inl refl));
+    versions = each-replicate (LegalVersion _) versionCount emptyRecord (inl refl);
+    walks = rw fresh-walks (each-replicate (LegalWalk _) walkCount closedRecord (inl refl));
     counted = λ n l. replicate-at N n 0 ∙ sym (fresh-links n);
     reached = λ n. (λ f. absurd (f (fresh-kind n)), λ r. absurd (reached-none (rw fresh-roots at r)));
     once = fresh-once;

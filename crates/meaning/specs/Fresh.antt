@@ -1,9 +1,9 @@
 -- "Forming a fresh state makes all slots empty, all walks closed, all nodes free."
 use mathlib.Core.List.{List, [], _∷_}
-use Prim.Native.Nat.{ℕ, zero, suc, _*_}
+use Prim.Native.Nat.{ℕ, zero, suc}
 use lib.IntN.{pos}
 use lib.ListN.{replicate}
-use Rattle.meaning.specs.Limits.{FREE, parties, partySlots, partyWalks, walkLevels, walkNumbers}
+use Rattle.meaning.specs.Limits.{FREE, versionCount, allNumbers, places}
 use Rattle.meaning.specs.Lent.{Lent, emptyRecord}
 
 -- n - 1 down to 0: the last place is the next to be taken, so node 0 goes first
@@ -18,11 +18,11 @@ freshState N cells =
       nodes = record { kinds = replicate N FREE; used = replicate N 0; cells = cells };
       counts = replicate N 0;
       order = downFrom N;
-      versions = replicate (parties * partySlots) emptyRecord;
+      versions = replicate versionCount emptyRecord;
       walks =
           record {
-            numbers = replicate (parties * partyWalks * walkNumbers) 0;
-            nodes = replicate (parties * partyWalks * (2 * walkLevels)) 0;
-            indices = replicate (parties * partyWalks * (2 * walkLevels)) (pos 0);
+            numbers = replicate allNumbers 0;
+            nodes = replicate places 0;
+            indices = replicate places (pos 0);
           };
     }

@@ -5,7 +5,7 @@ use Prim.Native.Nat.{ℕ, _+_, _*_}
 use lib.Dec.{ltb, eqb}
 use lib.IntN.{ℤ, pos}
 use lib.ListN.{length, getD, take, replicate}
-use Rattle.meaning.specs.Limits.{nodeCells, FREE, BRANCH, parties, partySlots, partyWalks, walkLevels, walkNumbers}
+use Rattle.meaning.specs.Limits.{nodeCells, FREE, BRANCH, partySlots, partyWalks, walkCount, walkLevels, walkNumbers}
 use Rattle.meaning.specs.Counting.{howMany, rows}
 
 -- ---- what is lent
@@ -120,4 +120,4 @@ walkAt s p n = walkRecord (s .walks) (partyWalks * p + n)
 -- all sixteen
 unfoldable pub walkRecords : Lent → List WalkRecord
 unfolding rows
-walkRecords s = rows (parties * partyWalks) (walkRecord (s .walks))
+walkRecords s = rows walkCount (walkRecord (s .walks))

@@ -1,5 +1,5 @@
 -- The limits, the sizes and the numbers of document 01, each by one name.
-use Prim.Native.Nat.{ℕ, suc, _^_}
+use Prim.Native.Nat.{ℕ, suc, _*_, _^_}
 
 -- ---- "The state the host lends"
 
@@ -40,6 +40,13 @@ partySlots = suc lastSlot
 abbrev pub partyWalks : ℕ
 partyWalks = suc lastWalk
 
+-- the version records and the walk records of all parties
+abbrev pub versionCount : ℕ
+versionCount = parties * partySlots
+
+abbrev pub walkCount : ℕ
+walkCount = parties * partyWalks
+
 -- the party that is the host
 abbrev pub host : ℕ
 host = 0
@@ -70,6 +77,13 @@ walkLevels = lengthBits
 abbrev pub walkNumbers : ℕ
 walkNumbers = 6
 
+-- the numbers of all walks, and the places for levels in the two stacks of each
+abbrev pub allNumbers : ℕ
+allNumbers = walkCount * walkNumbers
+
+abbrev pub places : ℕ
+places = walkCount * (2 * walkLevels)
+
 -- ---- "Requests, one frame each"
 
 abbrev pub frameSize : ℕ
@@ -78,8 +92,60 @@ frameSize = 12
 abbrev pub answerSize : ℕ
 answerSize = 6
 
+-- the operations by their numbers
+abbrev pub NEW : ℕ
+NEW = 0x00
+
+abbrev pub CLONE : ℕ
+CLONE = 0x01
+
+abbrev pub RELEASE : ℕ
+RELEASE = 0x02
+
+abbrev pub LEN : ℕ
+LEN = 0x03
+
+abbrev pub GET : ℕ
+GET = 0x04
+
+abbrev pub SET : ℕ
+SET = 0x05
+
+abbrev pub PUSH-BACK : ℕ
+PUSH-BACK = 0x06
+
+abbrev pub DROP-LAST : ℕ
+DROP-LAST = 0x07
+
+abbrev pub OPEN-WALK : ℕ
+OPEN-WALK = 0x08
+
+abbrev pub NEXT : ℕ
+NEXT = 0x09
+
+abbrev pub NEXT-BACK : ℕ
+NEXT-BACK = 0x0A
+
+abbrev pub CLOSE-WALK : ℕ
+CLOSE-WALK = 0x0B
+
+abbrev pub HAND-OVER : ℕ
+HAND-OVER = 0x0C
+
+abbrev pub FREE-NODES : ℕ
+FREE-NODES = 0x0D
+
+abbrev pub FIRST : ℕ
+FIRST = 0x0E
+
+abbrev pub LAST : ℕ
+LAST = 0x0F
+
+abbrev pub COMPARE : ℕ
+COMPARE = 0x10
+
 abbrev pub lastOperation : ℕ
-lastOperation = 0x10
+lastOperation = COMPARE
 
 -- ---- "Numbers given back"
 

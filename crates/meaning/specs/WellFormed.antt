@@ -3,7 +3,7 @@ use mathlib.Core.Path.{_≡_}
 use mathlib.Core.Logic.{_≢_, _⊎_, _↔_}
 use Prim.Native.Nat.{ℕ, _+_, _*_, _≤_, _<_}
 use lib.ListN.{length}
-use Rattle.meaning.specs.Limits.{maxNodes, nodeCells, FREE, parties, partySlots, partyWalks, maxBits, maxLength, walkLevels, walkNumbers}
+use Rattle.meaning.specs.Limits.{maxNodes, nodeCells, FREE, versionCount, maxBits, maxLength, allNumbers, places}
 use Rattle.meaning.specs.Counting.{bit, occurrences, Each}
 use Rattle.meaning.specs.Lent.{Nodes, kindOf, usedOf, cellOf, VersionRecord, emptyRecord, WalkRecord, closedRecord, Lent, size, countOf, isFree, freeOrder, walkRecords}
 use Rattle.meaning.specs.Trees.{HasShape}
@@ -18,10 +18,10 @@ pub record SizesFit (s : Lent) : Type 0 where
   pub cells : length (s .nodes .cells) ≡ nodeCells * size s
   pub counts : length (s .counts) ≡ size s
   pub order : length (s .order) ≡ size s
-  pub versions : length (s .versions) ≡ parties * partySlots
-  pub walkNumbers : length (s .walks .numbers) ≡ parties * partyWalks * walkNumbers
-  pub walkNodes : length (s .walks .nodes) ≡ parties * partyWalks * (2 * walkLevels)
-  pub walkIndices : length (s .walks .indices) ≡ parties * partyWalks * (2 * walkLevels)
+  pub versions : length (s .versions) ≡ versionCount
+  pub walkNumbers : length (s .walks .numbers) ≡ allNumbers
+  pub walkNodes : length (s .walks .nodes) ≡ places
+  pub walkIndices : length (s .walks .indices) ≡ places
 
 pub record LegalBits (bits : ℕ) : Type 0 where
   pub least : 1 ≤ bits
