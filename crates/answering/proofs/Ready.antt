@@ -8,7 +8,7 @@ use native.Mathlib.Omega.{arith}
 use lib.Dec.{ltb, eqb}
 use lib.ListN.{getD}
 use borrow.Author.Tests.{ne-eqb}
-use Rattle.meaning.specs.Limits.{parties, partyWalks}
+use Rattle.meaning.specs.Limits.{parties, partyWalks, OPEN-WALK, NEXT, NEXT-BACK, CLOSE-WALK, COMPARE}
 use Rattle.meaning.specs.Lent.{VersionRecord, closedRecord, walkRecord}
 use Rattle.meaning.specs.WellFormed.{Live, Open}
 use Rattle.meaning.specs.Frames.{Frame}
@@ -16,7 +16,6 @@ use Rattle.meaning.specs.Operations.{Op, Role, unused, source, filled, walked, 
 use Rattle.shape.specs.Legal.{Legal}
 use Rattle.sweep.specs.Ready.{Releasable}
 use Rattle.walk.specs.Walk.{numberAt, versionIn, Walkable}
-use Rattle.requests.specs.Numbers.{OPEN-WALK, NEXT, NEXT-BACK, CLOSE-WALK, COMPARE}
 use Rattle.frames.specs.Run.{Run, sourceIn, targetIn, walkPlace, walkIn, seenIn}
 use Rattle.edits.specs.Edits.{Able}
 use Rattle.calls.specs.Reads.{isSource, sourced}

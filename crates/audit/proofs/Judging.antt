@@ -5,13 +5,14 @@ use mathlib.Core.List.{List, []}
 use Prim.Native.Nat.{ℕ}
 use native.Mathlib.Omega.{arith}
 use lib.ListN.{getD, replicate}
+use Rattle.meaning.specs.Limits.{versionCount, walkCount}
 use Rattle.meaning.specs.Lent.{Nodes, walkRecord, Lent, size, isFree, freeNodes}
 use Rattle.meaning.specs.WellFormed.{WellFormed}
 use Rattle.audit_model.specs.Made.{kindsOf, walkVersion, lentOf}
 use Rattle.audit_model.specs.Descent.{answer}
 use Rattle.audit_model.specs.Records.{allTo}
 use Rattle.audit_model.specs.Tallies.{raiseTo, rootsTally, nodesTally}
-use Rattle.audit_model.specs.Audit.{versionCount, walkCount, Blank, versionOf, versionsOk, walksOk, recordsOk, orderOk, tallies, nodeOk, nodesOk, restOk}
+use Rattle.audit_model.specs.Audit.{Blank, versionOf, versionsOk, walksOk, recordsOk, orderOk, tallies, nodeOk, nodesOk, restOk}
 use Rattle.audit_model.proofs.Tests.{true≢false}
 use Rattle.audit_model.proofs.Decides.{rest-sound, rest-complete}
 use Rattle.audit_model.proofs.Sizes.{lengths, lengths-unfit, blank-zeros}

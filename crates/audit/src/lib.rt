@@ -1,6 +1,7 @@
 // Whether any bytes are a well-formed lent state. Nothing that is lent is written.
 ghost use mathlib.Core.Path.{_≡_};
 ghost use mathlib.Core.Bool.{cond};
+ghost use Rattle.meaning.specs.Limits.{maxNodes};
 ghost use Rattle.audit.specs.Audited.{lentOf, Judged, Ready, Small};
 
 pub struct Audited {
@@ -8,8 +9,6 @@ pub struct Audited {
     // The free nodes of a well-formed state, 0 for any other.
     pub free: u32,
 }
-
-const MAX_NODES: usize = 65536;
 
 // The largest N of a small and of a medium state.
 const SMALL: usize = 256;
@@ -35,7 +34,7 @@ pub fn audit_with(
     counts: &[u32],
     cells: &[u32],
     order: &[u32],
-    versions: [records::Version; 64],
+    versions: [records::Version; limits::VERSIONS],
     walk_numbers: &[u32],
     walk_nodes: &[u32],
     walk_indices: &[i32],
@@ -75,7 +74,7 @@ pub fn audit_small(
     counts: &[u32],
     cells: &[u32],
     order: &[u32],
-    versions: [records::Version; 64],
+    versions: [records::Version; limits::VERSIONS],
     walk_numbers: &[u32],
     walk_nodes: &[u32],
     walk_indices: &[i32],
@@ -107,7 +106,7 @@ pub fn audit_medium(
     counts: &[u32],
     cells: &[u32],
     order: &[u32],
-    versions: [records::Version; 64],
+    versions: [records::Version; limits::VERSIONS],
     walk_numbers: &[u32],
     walk_nodes: &[u32],
     walk_indices: &[i32],
@@ -139,17 +138,17 @@ pub fn audit_large(
     counts: &[u32],
     cells: &[u32],
     order: &[u32],
-    versions: [records::Version; 64],
+    versions: [records::Version; limits::VERSIONS],
     walk_numbers: &[u32],
     walk_nodes: &[u32],
     walk_indices: &[i32],
 ) -> Audited
-    requires { ⌜ Small (lentOf (now kinds) (now used) (now counts) (now cells) (now order) versions (now «walk_numbers») (now «walk_nodes») (now «walk_indices»)) 65536 ⌝ }
+    requires { ⌜ Small (lentOf (now kinds) (now used) (now counts) (now cells) (now order) versions (now «walk_numbers») (now «walk_nodes») (now «walk_indices»)) maxNodes ⌝ }
     ensures { λ r. ⌜ Judged (lentOf (now (kinds .entry)) (now (used .entry)) (now (counts .entry)) (now (cells .entry)) (now (order .entry)) versions
         (now («walk_numbers» .entry)) (now («walk_nodes» .entry)) (now («walk_indices» .entry))) (r .ok) (r .free) ⌝ }
 {
-    let mut codes = [0u32; MAX_NODES];
-    let mut tallies = [0u32; MAX_NODES];
+    let mut codes = [0u32; limits::MAX_NODES];
+    let mut tallies = [0u32; limits::MAX_NODES];
     audit_with(
         kinds,
         used,
@@ -172,7 +171,7 @@ pub fn audit(
     counts: &[u32],
     cells: &[u32],
     order: &[u32],
-    versions: [records::Version; 64],
+    versions: [records::Version; limits::VERSIONS],
     walk_numbers: &[u32],
     walk_nodes: &[u32],
     walk_indices: &[i32],

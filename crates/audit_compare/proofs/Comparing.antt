@@ -9,9 +9,9 @@ use native.Mathlib.Omega.{arith}
 use lib.Dec.{eqb, leb}
 use lib.ListN.{getD}
 use borrow.Author.Tests.{eq-eqb, ne-eqb, le-leb, lt-leb}
-use Rattle.meaning.specs.Limits.{maxNodes, nodeCells, FREE, walkLevels, walkNumbers}
+use Rattle.meaning.specs.Limits.{maxNodes, nodeCells, FREE, allNumbers, places}
 use Rattle.meaning.specs.Lent.{Nodes, kindOf, usedOf, cellOf}
-use Rattle.audit_model.specs.Audit.{walkCount, lengthsOk, spareOk, nodeOk}
+use Rattle.audit_model.specs.Audit.{lengthsOk, spareOk, nodeOk}
 use Rattle.audit_model.proofs.Steps.{Held, held-start, held-next, from-ends, from-fails, cond-yes, cond-no, and-yes, and-no}
 
 module _ (u : ℕ) (cell : ℕ → ℕ) where
@@ -67,8 +67,8 @@ unfolding lengthsOk
 too-long n u e c o a b i l = and-no _ _ (lt-leb n maxNodes l)
 
 pub not-long : (n u e c o a b i : ℕ) (r : Bool) → n ≤ maxNodes
-    → r ≡ ((((((leb 1 n && eqb u n) && eqb e (nodeCells * n)) && eqb c n) && eqb o n) && eqb a (walkCount * walkNumbers)) && eqb b (walkCount * (2 * walkLevels))
-    && eqb i (walkCount * (2 * walkLevels)))
+    → r ≡ ((((((leb 1 n && eqb u n) && eqb e (nodeCells * n)) && eqb c n) && eqb o n) && eqb a allNumbers) && eqb b places
+    && eqb i places)
     → r ≡ lengthsOk n u e c o a b i
 unfolding lengthsOk
 not-long n u e c o a b i r l p = p ∙ and-yes _ _ (le-leb n maxNodes l)

@@ -1,4 +1,5 @@
 // The comparison of the lengths with one N, and of each node with its code and its tally.
+use limits::NODE_CELLS;
 ghost use mathlib.Core.Path.{_≡_};
 ghost use Prim.Native.Nat.{ℕ, _+_, _*_, _≤_, _<_};
 ghost use lib.ListN.{length, getD};
@@ -6,14 +7,6 @@ ghost use Rattle.meaning.specs.Limits.{maxNodes, nodeCells};
 ghost use Rattle.audit_model.specs.Made.{nodesOf};
 ghost use Rattle.audit_model.specs.Records.{allTo};
 ghost use Rattle.audit_model.specs.Audit.{lengthsOk, spareOk, nodeOk};
-
-const MAX_NODES: usize = 65536;
-
-const CELLS: usize = audit_model::NODE_CELLS as usize;
-
-const WALK_NUMBERS: usize = audit_model::WALKS * audit_model::WALK_NUMBERS;
-
-const WALK_LEVELS: usize = audit_model::WALKS * 2 * audit_model::WALK_LEVELS;
 
 // Whether the lengths of kinds, used, cells, counts, order and the three walk slices fit one N in range.
 pub fn lengths_ok(
@@ -28,18 +21,18 @@ pub fn lengths_ok(
 ) -> bool
     ensures { λ r. ⌜ r ≡ lengthsOk n used cells counts order numbers nodes indices ⌝ }
 {
-    if n > MAX_NODES {
+    if n > limits::MAX_NODES {
         return false;
     }
-    let all = CELLS * n;
+    let all = NODE_CELLS * n;
     (1 <= n)
         & (used == n)
         & (cells == all)
         & (counts == n)
         & (order == n)
-        & (numbers == WALK_NUMBERS)
-        & (nodes == WALK_LEVELS)
-        & (indices == WALK_LEVELS)
+        & (numbers == limits::ALL_NUMBERS)
+        & (nodes == limits::PLACES)
+        & (indices == limits::PLACES)
 }
 
 // Whether the cells of a node from u upwards are 0, each looked at: with no way out of the loop, the compiler takes several at a time.
@@ -49,7 +42,7 @@ pub fn row_spare_ok(cells: &[u32], at: usize, u: u32) -> bool
 {
     let mut ok = true;
     let mut i = u as usize;
-    while i < CELLS {
+    while i < NODE_CELLS {
         ok = ok & (cells[at + i] == 0);
         i += 1;
     }
@@ -61,7 +54,7 @@ pub fn part_spare_ok(cells: &[u32], n: u32, u: u32) -> bool
     ensures { λ r. ⌜ r ≡ spareOk u (λ (i : ℕ). getD (now (cells .entry)) (nodeCells * n + i) 0) ⌝ }
 {
     let mut i: u32 = u;
-    while i < audit_model::NODE_CELLS {
+    while i < limits::words::NODE_CELLS {
         let x = audit_reads::cell_at(cells, n, i);
         if x != 0 {
             return false;
@@ -74,8 +67,8 @@ pub fn part_spare_ok(cells: &[u32], n: u32, u: u32) -> bool
 pub fn spare_ok(cells: &[u32], n: u32, u: u32) -> bool
     ensures { λ r. ⌜ r ≡ spareOk u (λ (i : ℕ). getD (now (cells .entry)) (nodeCells * n + i) 0) ⌝ }
 {
-    let at = CELLS * (n as usize);
-    if at + CELLS <= cells.len() {
+    let at = NODE_CELLS * (n as usize);
+    if at + NODE_CELLS <= cells.len() {
         return row_spare_ok(cells, at, u);
     }
     part_spare_ok(cells, n, u)
@@ -98,7 +91,7 @@ pub fn node_ok(
     let u = audit_reads::byte_at(used, i);
     let count = audit_reads::word_at(counts, i);
     let tally = audit_reads::word_at(tallies, i);
-    if kind == audit_model::FREE {
+    if kind == limits::words::FREE {
         return (tally == 1) & (u == 0) & (count == 0);
     }
     let code = audit_reads::word_at(codes, i);

@@ -40,7 +40,7 @@ pub fn leaf_ok(kind: u32, used: u32, bits: u32, size: u32) -> bool
     ensures { λ r. ⌜ r ≡ leafOk kind used bits size ⌝ }
 {
     let d = shape::vector_utils::degree(bits);
-    (kind == audit_model::LEAF) & (used == size) & (size <= d)
+    (kind == limits::words::LEAF) & (used == size) & (size <= d)
 }
 
 // Whether it is a branch over size elements with children that hold c each. Then it has no more children than cells.
@@ -50,7 +50,7 @@ pub fn branch_ok(kind: u32, used: u32, bits: u32, c: u32, size: u32) -> bool
 {
     let d = shape::vector_utils::degree(bits);
     let most = used * c;
-    (kind == audit_model::BRANCH) & (used <= d) & (size <= most) & (most < size + c)
+    (kind == limits::words::BRANCH) & (used <= d) & (size <= most) & (most < size + c)
 }
 
 // A leaf is marked if it is right.

@@ -9,6 +9,7 @@ use lib.Dec.{eqb}
 use lib.ListN.{length, getD, set, length-set}
 use lib.Seq.{getD-set-same, getD-set-other}
 use borrow.Author.Tests.{eq-eqb, ne-eqb}
+use Rattle.meaning.specs.Limits.{versionCount, walkCount}
 use Rattle.meaning.specs.Counting.{sumTo, bit, howMany, occurrences, rows}
 use Rattle.meaning.specs.Lent.{Nodes, cellOf, childCount, VersionRecord, emptyRecord, WalkRecord, walkRecord, walkRecords, Lent, size, isFree, freeNodes, freeOrder}
 use Rattle.meaning.specs.Links.{liveRoots, roots, cellLinks, links}
@@ -17,7 +18,7 @@ use Rattle.meaning.proofs.Lists.{many-le, occurs-append}
 use Rattle.meaning.proofs.Sums.{occurs-take}
 use Rattle.meaning.proofs.Rows.{rows-map}
 use Rattle.audit_model.specs.Tallies.{raise, raiseTo, raiseRoot, rootsTally, nodeTally, nodesTally}
-use Rattle.audit_model.specs.Audit.{versionCount, walkCount, Blank, versionOf, tallies}
+use Rattle.audit_model.specs.Audit.{Blank, versionOf, tallies}
 use Rattle.audit_model.proofs.Lists.{many-next, rows-all, rootLink, roots-next}
 
 -- t′ is t with g n more at each n

@@ -7,14 +7,14 @@ use Prim.Native.Nat.{ℕ, _+_, _≤_, _<_}
 use native.Mathlib.Decide.{decLt}
 use native.Mathlib.Omega.{arith}
 use lib.ListN.{getD}
-use Rattle.meaning.specs.Limits.{BRANCH}
+use Rattle.meaning.specs.Limits.{BRANCH, versionCount, walkCount}
 use Rattle.meaning.specs.Counting.{occurrences, rows, Each}
 use Rattle.meaning.specs.Lent.{kindOf, usedOf, cellOf, emptyRecord, walkRecord, walkRecords, Lent, size}
 use Rattle.meaning.specs.Links.{liveRoots, roots, Reached, byRoot, byCell}
 use Rattle.meaning.specs.WellFormed.{LegalVersion, LegalWalk, SizesFit}
 use Rattle.meaning.proofs.Lists.{occurs-append, each-getD, each-row, each-rows}
 use Rattle.meaning.proofs.Nodes.{child-linked, links-cell}
-use Rattle.audit_model.specs.Audit.{versionCount, walkCount, Blank, versionOf, versionsOk, walksOk, recordsOk}
+use Rattle.audit_model.specs.Audit.{Blank, versionOf, versionsOk, walksOk, recordsOk}
 use Rattle.audit_model.proofs.Done.{Good, Done, done-then, done-through}
 use Rattle.audit_model.proofs.Visits.{code-some}
 use Rattle.audit_model.proofs.Slots.{Root, version-done, walk-done}

@@ -8,12 +8,12 @@ use native.Mathlib.Omega.{arith}
 use lib.Dec.{eqb}
 use lib.ListN.{length, replicate, length-replicate}
 use borrow.Author.Tests.{eqb-true, leb-true, eq-eqb, le-leb}
-use Rattle.meaning.specs.Limits.{walkNumbers}
+use Rattle.meaning.specs.Limits.{versionCount, walkNumbers}
 use Rattle.meaning.specs.Lent.{Lent, size}
 use Rattle.meaning.specs.WellFormed.{SizesFit, WellFormed}
 use Rattle.meaning.proofs.Lists.{replicate-at}
 use Rattle.meaning.proofs.Booleans.{both-true}
-use Rattle.audit_model.specs.Audit.{versionCount, Blank, lengthsOk, sizesOk, restOk, auditOk}
+use Rattle.audit_model.specs.Audit.{Blank, lengthsOk, sizesOk, restOk, auditOk}
 use Rattle.audit_model.proofs.Tests.{true≢false, true-both}
 use Rattle.audit_model.proofs.Decides.{rest-sound, rest-complete}
 

@@ -5,17 +5,11 @@ use mathlib.Core.List.{List}
 use Prim.Native.Nat.{ℕ, _*_, _≤_}
 use lib.Dec.{eqb, leb}
 use lib.ListN.{length, getD}
-use Rattle.meaning.specs.Limits.{maxNodes, nodeCells, FREE, parties, partySlots, partyWalks, walkLevels, walkNumbers}
+use Rattle.meaning.specs.Limits.{maxNodes, nodeCells, FREE, versionCount, walkCount, allNumbers, places}
 use Rattle.meaning.specs.Lent.{Nodes, kindOf, usedOf, cellOf, VersionRecord, emptyRecord, walkRecord, Lent, size, isFree, freeNodes}
 use Rattle.audit_model.specs.Descent.{Answer, andThen, through}
 use Rattle.audit_model.specs.Records.{allTo, allFrom, versionStep, walkStep}
 use Rattle.audit_model.specs.Tallies.{raiseTo, rootsTally, nodesTally}
-
-abbrev pub versionCount : ℕ
-versionCount = parties * partySlots
-
-abbrev pub walkCount : ℕ
-walkCount = parties * partyWalks
 
 -- n zeros or more
 pub record Blank (n : ℕ) (z : List ℕ) : Type 0 where
@@ -26,8 +20,8 @@ pub record Blank (n : ℕ) (z : List ℕ) : Type 0 where
 unfoldable pub lengthsOk : (kinds used cells counts order numbers nodes indices : ℕ) → Bool
 lengthsOk n u e c o a b i =
     leb n maxNodes
-    && ((((((leb 1 n && eqb u n) && eqb e (nodeCells * n)) && eqb c n) && eqb o n) && eqb a (walkCount * walkNumbers)) && eqb b (walkCount * (2 * walkLevels))
-    && eqb i (walkCount * (2 * walkLevels)))
+    && ((((((leb 1 n && eqb u n) && eqb e (nodeCells * n)) && eqb c n) && eqb o n) && eqb a allNumbers) && eqb b places
+    && eqb i places)
 
 unfoldable pub sizesOk : Lent → Bool
 sizesOk s =

@@ -5,11 +5,10 @@ ghost use Prim.Native.Nat.{_+_, _*_, _<_, _≤_};
 ghost use lib.Dec.{eqb};
 ghost use lib.IntN.{pos};
 ghost use lib.ListN.{getD, set};
-ghost use Rattle.meaning.specs.Limits.{nodeCells};
+ghost use Rattle.meaning.specs.Limits.{nodeCells, walkCount};
 ghost use Rattle.records.specs.Records.{recordOf};
 ghost use Rattle.audit_model.specs.Made.{walkVersion};
 ghost use Rattle.audit_model.specs.Records.{isIndex};
-ghost use Rattle.audit_model.specs.Audit.{walkCount};
 
 pub fn byte_at(s: &[u8], n: usize) -> u32
     ensures { λ r. ⌜ (r ≡ getD (now (s .entry)) n 0) × (r ≤ 255) ⌝ }
@@ -35,10 +34,7 @@ pub fn word_at(s: &[u32], n: usize) -> u32
 pub fn cell_at(cells: &[u32], n: u32, i: u32) -> u32
     ensures { λ r. ⌜ r ≡ getD (now (cells .entry)) (nodeCells * n + i) 0 ⌝ }
 {
-    word_at(
-        cells,
-        audit_model::NODE_CELLS as usize * n as usize + i as usize,
-    )
+    word_at(cells, limits::NODE_CELLS * n as usize + i as usize)
 }
 
 pub fn put_at(t: &mut [u32], n: usize, x: u32)
@@ -77,7 +73,7 @@ pub fn version_of(numbers: &[u32], n: usize) -> records::Version
     requires { ⌜ n < walkCount ⌝ }
     ensures { λ r. ⌜ recordOf r ≡ walkVersion (now (numbers .entry)) n ⌝ }
 {
-    let first = audit_model::WALK_NUMBERS * n;
+    let first = limits::WALK_NUMBERS * n;
     let live = word_at(numbers, first);
     let root = word_at(numbers, first + 1);
     let bits = word_at(numbers, first + 2);

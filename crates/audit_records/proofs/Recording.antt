@@ -8,7 +8,7 @@ use lib.Dec.{eqb, leb}
 use lib.IntN.{ℤ}
 use lib.ListN.{getD, List·getD-map}
 use borrow.Author.Tests.{eq-eqb, ne-eqb, eqb-true}
-use Rattle.meaning.specs.Limits.{maxBits, maxLength}
+use Rattle.meaning.specs.Limits.{versionCount, walkCount, maxBits, maxLength}
 use Rattle.meaning.specs.Lent.{Nodes, VersionRecord, walkRecord}
 use Rattle.meaning.specs.Trees.{heightOf}
 use Rattle.meaning.proofs.Booleans.{both-true}
@@ -19,7 +19,7 @@ use Rattle.shape.proofs.Capacity.{height-shift}
 use Rattle.audit_model.specs.Made.{walksOf, lentOf, walkVersion}
 use Rattle.audit_model.specs.Descent.{Answer, answer, pick, goOn, through, visit}
 use Rattle.audit_model.specs.Records.{emptyOk, legalOk, versionStep, walkAgrees, walkStep}
-use Rattle.audit_model.specs.Audit.{versionCount, walkCount, versionOf, versionsOk, walksOk, recordsOk}
+use Rattle.audit_model.specs.Audit.{versionOf, versionsOk, walksOk, recordsOk}
 use Rattle.audit_model.proofs.Tests.{true≢false}
 use Rattle.audit_model.proofs.Slots.{legal-is}
 use Rattle.audit_model.proofs.Steps.{pick-yes, pick-no}

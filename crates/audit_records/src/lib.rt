@@ -2,11 +2,12 @@
 ghost use mathlib.Core.Path.{_≡_};
 ghost use mathlib.Core.List.{[]};
 ghost use Prim.Native.Nat.{_<_};
+ghost use Rattle.meaning.specs.Limits.{versionCount, walkCount};
 ghost use Rattle.records.specs.Records.{recordOf, recordsOf};
 ghost use Rattle.audit_model.specs.Made.{nodesOf, walksOf, lentOf};
 ghost use Rattle.audit_model.specs.Descent.{answer, through};
 ghost use Rattle.audit_model.specs.Records.{versionStep, walkStep};
-ghost use Rattle.audit_model.specs.Audit.{versionCount, walkCount, versionOf, recordsOk};
+ghost use Rattle.audit_model.specs.Audit.{versionOf, recordsOk};
 
 // An empty record is 0; a live one has legal numbers, and its root is descended into.
 pub fn version_ok(
@@ -22,10 +23,7 @@ pub fn version_ok(
         return (v.root == 0) & (v.bits == 0) & (v.length == 0);
     }
     let most = limits::max_length();
-    let legal = (v.live == 1)
-        & (1 <= v.bits)
-        & (v.bits <= audit_model::MAX_BITS)
-        & (v.length <= most);
+    let legal = (v.live == 1) & (1 <= v.bits) & (v.bits <= limits::MAX_BITS) & (v.length <= most);
     if !legal {
         return false;
     }
@@ -38,12 +36,12 @@ pub fn versions_ok(
     used: &[u8],
     cells: &[u32],
     codes: &mut [u32],
-    versions: [records::Version; 64],
+    versions: [records::Version; limits::VERSIONS],
 ) -> bool
     ensures { λ r. ⌜ answer r (now (codes .exit)) ≡ through versionCount (λ i. versionStep (nodesOf (now (kinds .entry)) (now (used .entry)) (now (cells .entry))) (versionOf (recordsOf versions) i)) (now (codes .entry)) ⌝ }
 {
     let mut i: usize = 0;
-    while i < audit_model::SLOTS {
+    while i < limits::VERSIONS {
         let v = versions[i];
         let right = version_ok(kinds, used, cells, codes, v);
         if !right {
@@ -90,7 +88,7 @@ pub fn walks_ok(
         (walksOf (now (numbers .entry)) (now (nodes .entry)) (now (indices .entry)))) (now (codes .entry)) ⌝ }
 {
     let mut n: usize = 0;
-    while n < audit_model::WALKS {
+    while n < limits::WALKS {
         let right = walk_ok(kinds, used, cells, codes, numbers, nodes, indices, n);
         if !right {
             return false;
@@ -106,7 +104,7 @@ pub fn records_ok(
     used: &[u8],
     cells: &[u32],
     codes: &mut [u32],
-    versions: [records::Version; 64],
+    versions: [records::Version; limits::VERSIONS],
     numbers: &[u32],
     nodes: &[u32],
     indices: &[i32],

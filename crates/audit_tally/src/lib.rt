@@ -3,13 +3,13 @@ ghost use mathlib.Core.Path.{_≡_};
 ghost use mathlib.Core.Bool.{true, false};
 ghost use Prim.Native.Nat.{ℕ, _+_, _*_, _≤_, _<_};
 ghost use lib.ListN.{length, getD};
-ghost use Rattle.meaning.specs.Limits.{maxNodes, nodeCells};
+ghost use Rattle.meaning.specs.Limits.{maxNodes, nodeCells, versionCount, walkCount};
 ghost use Rattle.meaning.specs.Lent.{isFree, freeNodes};
 ghost use Rattle.records.specs.Records.{recordOf, recordsOf};
 ghost use Rattle.audit_model.specs.Made.{nodesOf, kindsOf, walkVersion};
 ghost use Rattle.audit_model.specs.Records.{allTo};
 ghost use Rattle.audit_model.specs.Tallies.{raise, raiseTo, raiseRoot, rootsTally, nodeTally, nodesTally};
-ghost use Rattle.audit_model.specs.Audit.{versionCount, walkCount, versionOf};
+ghost use Rattle.audit_model.specs.Audit.{versionOf};
 ghost use Rattle.audit_tally.specs.Under.{Under};
 
 // One more for n, if it has a place.
@@ -43,7 +43,7 @@ pub fn tally_node(kinds: &[u8], used: &[u8], cells: &[u32], t: &mut [u32], m: u3
     ensures { λ _. ⌜ now (t .exit) ≡ nodeTally (nodesOf (now (kinds .entry)) (now (used .entry)) (now (cells .entry))) m (now (t .entry)) ⌝ }
 {
     let kind = audit_reads::byte_at(kinds, m as usize);
-    if kind != audit_model::BRANCH {
+    if kind != limits::words::BRANCH {
         return;
     }
     let u = audit_reads::byte_at(used, m as usize);
@@ -51,7 +51,7 @@ pub fn tally_node(kinds: &[u8], used: &[u8], cells: &[u32], t: &mut [u32], m: u3
 }
 
 pub fn tally_nodes(kinds: &[u8], used: &[u8], cells: &[u32], t: &mut [u32])
-    requires { ⌜ (length (now kinds) ≤ maxNodes) × Under 65616 (now t) ⌝ }
+    requires { ⌜ (length (now kinds) ≤ maxNodes) × Under (maxNodes + versionCount + walkCount) (now t) ⌝ }
     ensures { λ _. ⌜ now (t .exit) ≡ nodesTally (nodesOf (now (kinds .entry)) (now (used .entry)) (now (cells .entry))) (length (now (kinds .entry))) (now (t .entry)) ⌝ }
 {
     let len = kinds.len() as u32;
@@ -72,12 +72,12 @@ pub fn raise_root(t: &mut [u32], v: records::Version)
     }
 }
 
-pub fn tally_versions(versions: [records::Version; 64], t: &mut [u32])
-    requires { ⌜ Under 65536 (now t) ⌝ }
-    ensures { λ _. ⌜ (now (t .exit) ≡ rootsTally versionCount (versionOf (recordsOf versions)) (now (t .entry))) × Under 65600 (now (t .exit)) ⌝ }
+pub fn tally_versions(versions: [records::Version; limits::VERSIONS], t: &mut [u32])
+    requires { ⌜ Under maxNodes (now t) ⌝ }
+    ensures { λ _. ⌜ (now (t .exit) ≡ rootsTally versionCount (versionOf (recordsOf versions)) (now (t .entry))) × Under (maxNodes + versionCount) (now (t .exit)) ⌝ }
 {
     let mut i: usize = 0;
-    while i < audit_model::SLOTS {
+    while i < limits::VERSIONS {
         let v = versions[i];
         raise_root(t, v);
         i += 1;
@@ -85,11 +85,11 @@ pub fn tally_versions(versions: [records::Version; 64], t: &mut [u32])
 }
 
 pub fn tally_walks(numbers: &[u32], t: &mut [u32])
-    requires { ⌜ Under 65600 (now t) ⌝ }
-    ensures { λ _. ⌜ (now (t .exit) ≡ rootsTally walkCount (walkVersion (now (numbers .entry))) (now (t .entry))) × Under 65616 (now (t .exit)) ⌝ }
+    requires { ⌜ Under (maxNodes + versionCount) (now t) ⌝ }
+    ensures { λ _. ⌜ (now (t .exit) ≡ rootsTally walkCount (walkVersion (now (numbers .entry))) (now (t .entry))) × Under (maxNodes + versionCount + walkCount) (now (t .exit)) ⌝ }
 {
     let mut n: usize = 0;
-    while n < audit_model::WALKS {
+    while n < limits::WALKS {
         let v = audit_reads::version_of(numbers, n);
         raise_root(t, v);
         n += 1;
@@ -103,7 +103,7 @@ pub fn is_free(kinds: &[u8], n: u32) -> bool
     let i = n as usize;
     let inside = i < kinds.len();
     let kind = audit_reads::byte_at(kinds, i);
-    inside & (kind == audit_model::FREE)
+    inside & (kind == limits::words::FREE)
 }
 
 pub fn count_free(kinds: &[u8]) -> u32
@@ -125,7 +125,7 @@ pub fn count_free(kinds: &[u8]) -> u32
 pub fn tally_order(kinds: &[u8], order: &[u32], f: u32, t: &mut [u32]) -> bool
     requires { ⌜ (f ≤ maxNodes) × Under 0 (now t) ⌝ }
     ensures { λ r. ⌜ (r ≡ allTo f (λ (j : ℕ). isFree (kindsOf (now (kinds .entry))) (getD (now (order .entry)) j 0)))
-        × (r ≡ true → (now (t .exit) ≡ raiseTo f (λ (j : ℕ). getD (now (order .entry)) j 0) (now (t .entry))) × Under 65536 (now (t .exit))) ⌝ }
+        × (r ≡ true → (now (t .exit) ≡ raiseTo f (λ (j : ℕ). getD (now (order .entry)) j 0) (now (t .entry))) × Under maxNodes (now (t .exit))) ⌝ }
 {
     let mut j: u32 = 0;
     while j < f {
@@ -145,11 +145,11 @@ pub fn tally_links(
     kinds: &[u8],
     used: &[u8],
     cells: &[u32],
-    versions: [records::Version; 64],
+    versions: [records::Version; limits::VERSIONS],
     numbers: &[u32],
     t: &mut [u32],
 )
-    requires { ⌜ (length (now kinds) ≤ maxNodes) × Under 65536 (now t) ⌝ }
+    requires { ⌜ (length (now kinds) ≤ maxNodes) × Under maxNodes (now t) ⌝ }
     ensures { λ _. ⌜ now (t .exit) ≡ nodesTally (nodesOf (now (kinds .entry)) (now (used .entry)) (now (cells .entry))) (length (now (kinds .entry)))
         (rootsTally walkCount (walkVersion (now (numbers .entry))) (rootsTally versionCount (versionOf (recordsOf versions)) (now (t .entry)))) ⌝ }
 {

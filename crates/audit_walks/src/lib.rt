@@ -1,23 +1,22 @@
 // Whether the levels of a walk are what its numbers say.
+use limits::WALK_LEVELS;
 ghost use mathlib.Core.Path.{_≡_};
 ghost use Prim.Native.Nat.{_+_, _*_, _-_, _<_};
-ghost use Rattle.meaning.specs.Limits.{lengthBits, parties, partyWalks};
+ghost use Rattle.meaning.specs.Limits.{walkCount, lengthBits};
 ghost use Rattle.meaning.specs.WellFormed.{LegalBits};
 ghost use Rattle.records.specs.Records.{recordOf};
 ghost use Rattle.audit_model.specs.Made.{walksOf, walkVersion};
 ghost use Rattle.audit_model.specs.Records.{wayOk, blankFrom, stackOk, walkAgrees};
 ghost use Rattle.audit_walks.specs.Walkable.{Found, Walkable};
 
-const LEVELS: usize = audit_model::WALK_LEVELS;
-
 // Whether the levels of a stack from start upwards are 0.
 pub fn blank_from(nodes: &[u32], indices: &[i32], stack: usize, start: usize) -> bool
-    requires { ⌜ stack < 2 * (parties * partyWalks) ⌝ }
+    requires { ⌜ stack < 2 * walkCount ⌝ }
     ensures { λ r. ⌜ r ≡ blankFrom (now (nodes .entry)) (now (indices .entry)) stack start ⌝ }
 {
     let mut k = start;
-    while k < LEVELS {
-        let right = audit_reads::level_is(nodes, indices, LEVELS * stack + k, 0, 0);
+    while k < WALK_LEVELS {
+        let right = audit_reads::level_is(nodes, indices, WALK_LEVELS * stack + k, 0, 0);
         if !right {
             return false;
         }
@@ -37,14 +36,14 @@ pub fn way_ok(
     root: u32,
     index: u32,
 ) -> bool
-    requires { ⌜ (stack < 2 * (parties * partyWalks)) × LegalBits bits × (height * bits < lengthBits) ⌝ }
+    requires { ⌜ (stack < 2 * walkCount) × LegalBits bits × (height * bits < lengthBits) ⌝ }
     ensures { λ r. ⌜ r ≡ wayOk (now (cells .entry)) (now (nodes .entry)) (now (indices .entry)) stack bits height root index ⌝ }
 {
     let mut k = height;
     let mut n = root;
     while k > 0 {
         let b = shape::vector_utils::bucket(bits, index, k);
-        let right = audit_reads::level_is(nodes, indices, LEVELS * stack + k as usize, n, b);
+        let right = audit_reads::level_is(nodes, indices, WALK_LEVELS * stack + k as usize, n, b);
         if !right {
             return false;
         }
@@ -52,7 +51,7 @@ pub fn way_ok(
         k -= 1;
     }
     let b = shape::vector_utils::bucket(bits, index, 0);
-    audit_reads::level_is(nodes, indices, LEVELS * stack, n, b)
+    audit_reads::level_is(nodes, indices, WALK_LEVELS * stack, n, b)
 }
 
 // Whether a stack is right: none before anything is taken or when all is, and else the way to what comes next.
@@ -99,11 +98,11 @@ pub fn walk_agrees(
     n: usize,
     v: records::Version,
 ) -> bool
-    requires { ⌜ (n < parties * partyWalks) × (recordOf v ≡ walkVersion (now numbers) n) × Found (recordOf v) ⌝ }
+    requires { ⌜ (n < walkCount) × (recordOf v ≡ walkVersion (now numbers) n) × Found (recordOf v) ⌝ }
     ensures { λ r. ⌜ r ≡ walkAgrees (now (cells .entry)) (walksOf (now (numbers .entry)) (now (nodes .entry)) (now (indices .entry))) n ⌝ }
 {
-    let front = audit_reads::word_at(numbers, audit_model::WALK_NUMBERS * n + 4);
-    let back = audit_reads::word_at(numbers, audit_model::WALK_NUMBERS * n + 5);
+    let front = audit_reads::word_at(numbers, limits::WALK_NUMBERS * n + 4);
+    let back = audit_reads::word_at(numbers, limits::WALK_NUMBERS * n + 5);
     if front > v.length {
         return false;
     }

@@ -1,8 +1,12 @@
 // Requests as a batch: audited once, then served in order. The version table goes by value.
-use level::PLACES;
+use limits::FRAME_SIZE;
+use limits::VERSIONS;
+use limits::numbers::DONE;
+use limits::numbers::ILL_FORMED;
+use limits::numbers::NO_ROOM;
+use limits::numbers::RAGGED;
 use records::Version;
 use runs::Ran;
-use walk::ROOM;
 ghost use mathlib.Core.Path.{_≡_};
 ghost use Rattle.records.specs.Records.{recordsOf};
 ghost use Rattle.store.specs.Store.{storeOf};
@@ -11,30 +15,14 @@ ghost use Rattle.audit.specs.Audited.{lentOf};
 ghost use Rattle.runs.specs.Runs.{runOf, progress, CanRun, runFrom};
 ghost use Rattle.batch.specs.Batched.{Batches, batchedWith};
 
-const SLOTS: usize = 64;
-
-const FRAME_SIZE: usize = 12;
-
-const ANSWER_SIZE: usize = 6;
-
-// ---- numbers given back
-
-pub const DONE: u8 = 0;
-
-pub const ILL_FORMED: u8 = 11;
-
-pub const NO_ROOM: u8 = 12;
-
-pub const RAGGED: u8 = 13;
-
 // What a batch reports, and the version records after it.
 pub struct Batched {
     pub number: u8,
     pub frames: usize,
-    pub versions: [Version; SLOTS],
+    pub versions: [Version; VERSIONS],
 }
 
-fn report(number: u8, frames: usize, versions: [Version; SLOTS]) -> Batched
+fn report(number: u8, frames: usize, versions: [Version; VERSIONS]) -> Batched
     ensures { λ r. ⌜ r ≡ batchedWith number frames versions ⌝ }
 {
     Batched {
@@ -55,7 +43,7 @@ fn serve(
     walk_nodes: &mut [u32],
     walk_indices: &mut [i32],
     free: usize,
-    versions: [Version; SLOTS],
+    versions: [Version; VERSIONS],
     requests: &[u8],
     room: &mut [u8],
     count: usize,
@@ -99,7 +87,7 @@ pub fn batch(
     counts: &mut [u32],
     cells: &mut [u32],
     order: &mut [u32],
-    versions: [Version; SLOTS],
+    versions: [Version; VERSIONS],
     walk_numbers: &mut [u32],
     walk_nodes: &mut [u32],
     walk_indices: &mut [i32],
@@ -117,7 +105,7 @@ pub fn batch(
         return report(RAGGED, 0, versions);
     }
     let count = asked / FRAME_SIZE;
-    if room.len() < ANSWER_SIZE * count {
+    if room.len() < requests::answer_place(count) {
         return report(NO_ROOM, 0, versions);
     }
     let judged = audit::audit(

@@ -6,6 +6,7 @@ use mathlib.Core.List.{List}
 use Prim.Native.Nat.{ℕ, _-_}
 use lib.Dec.{eqb}
 use borrow.Author.Tests.{eq-eqb, ne-eqb, eqb-true}
+use Rattle.meaning.specs.Limits.{NEW, CLONE, RELEASE, LEN, GET, SET, PUSH-BACK, DROP-LAST, OPEN-WALK, NEXT-BACK, CLOSE-WALK, HAND-OVER, FIRST, LAST, COMPARE}
 use Rattle.meaning.specs.Lent.{VersionRecord, WalkSlices}
 use Rattle.meaning.specs.Frames.{Frame}
 use Rattle.meaning.specs.Serve.{refused}
@@ -21,7 +22,6 @@ use Rattle.store.specs.Store.{Store, raises}
 use Rattle.sweep.specs.Sweep as sweep
 use Rattle.sweep.specs.Ready.{Releasable}
 use Rattle.walk.specs.Walk.{Step, stepped, slices, versionIn, opened, closed, takenBy}
-use Rattle.requests.specs.Numbers.{NEW, CLONE, RELEASE, LEN, GET, SET, PUSH-BACK, DROP-LAST, OPEN-WALK, NEXT-BACK, CLOSE-WALK, HAND-OVER, FIRST, LAST, COMPARE}
 use Rattle.served.specs.Served.{answeredWith, gotWith, orderedWith}
 use Rattle.served.specs.Acted.{Acted, actedOf}
 use Rattle.served.specs.declared.Served.{Served}

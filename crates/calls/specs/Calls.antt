@@ -3,14 +3,13 @@ use mathlib.Core.Path.{_≡_}
 use mathlib.Core.Bool.{Bool, true, cond, _||_}
 use Prim.Native.Nat.{ℕ, _≤_}
 use lib.Dec.{eqb}
-use Rattle.meaning.specs.Limits.{maxNodes}
+use Rattle.meaning.specs.Limits.{maxNodes, NEW, CLONE, RELEASE, SET, PUSH-BACK, DROP-LAST, OPEN-WALK, NEXT, NEXT-BACK, CLOSE-WALK, HAND-OVER, COMPARE}
 use Rattle.meaning.specs.Lent.{VersionRecord, WalkSlices}
 use Rattle.meaning.specs.Frames.{Frame}
 use Rattle.shape.specs.Legal.{Legal}
 use Rattle.records.specs.declared.Version.{Version}
 use Rattle.store.specs.Store.{Store}
 use Rattle.vector.specs.Ready.{Steady}
-use Rattle.requests.specs.Numbers.{NEW, CLONE, RELEASE, SET, PUSH-BACK, DROP-LAST, OPEN-WALK, NEXT, NEXT-BACK, CLOSE-WALK, HAND-OVER, COMPARE}
 use Rattle.served.specs.Acted.{Acted}
 use Rattle.edits.specs.Edits.{Able, releasedAct, editAct}
 use Rattle.calls.specs.Reads.{sourced, readWith}

@@ -5,7 +5,7 @@ use mathlib.Core.List.{List}
 use Prim.Native.Nat.{ℕ, _-_, _≤_}
 use lib.Dec.{eqb}
 use lib.ListN.{getD}
-use Rattle.meaning.specs.Limits.{maxNodes}
+use Rattle.meaning.specs.Limits.{maxNodes, LEN, GET, FIRST, LAST, COMPARE}
 use Rattle.meaning.specs.Lent.{VersionRecord}
 use Rattle.meaning.specs.Frames.{Frame}
 use Rattle.meaning.specs.Operations.{Role, unused, source, filled, walked, opened, owner, bits, position, element, operations, unknown, uses}
@@ -13,7 +13,6 @@ use Rattle.records.specs.declared.Version.{Version}
 use Rattle.shape.specs.Legal.{Legal}
 use Rattle.lookup.specs.Lookup.{got}
 use Rattle.compare.specs.Compare.{ordering}
-use Rattle.requests.specs.Numbers.{LEN, GET, FIRST, LAST, COMPARE}
 use Rattle.served.specs.Served.{answeredWith, gotWith, orderedWith}
 use Rattle.served.specs.declared.Served.{Served}
 

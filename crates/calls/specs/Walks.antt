@@ -5,7 +5,7 @@ use mathlib.Core.Bool.{cond}
 use mathlib.Core.List.{List, [], _∷_}
 use Prim.Native.Nat.{ℕ, _+_, _*_, _%_}
 use lib.Dec.{eqb}
-use Rattle.meaning.specs.Limits.{parties, partyWalks, NOTHING-THERE}
+use Rattle.meaning.specs.Limits.{parties, partyWalks, OPEN-WALK, NEXT-BACK, CLOSE-WALK, NOTHING-THERE}
 use Rattle.meaning.specs.Lent.{VersionRecord, WalkSlices}
 use Rattle.meaning.specs.Frames.{Frame, Answer}
 use Rattle.meaning.specs.Serve.{refused}
@@ -18,7 +18,6 @@ use Rattle.sweep.specs.Sweep as sweep
 use Rattle.vector.specs.Ready.{Linkable}
 use Rattle.walk.specs.Walk.{stored, openRecord, versionIn, Walkable, Step, takenBy}
 use Rattle.walk.specs.Walk as walk
-use Rattle.requests.specs.Numbers.{OPEN-WALK, NEXT-BACK, CLOSE-WALK}
 use Rattle.served.specs.Served.{answeredWith, gotWith}
 use Rattle.served.specs.Acted.{Acted}
 use Rattle.served.specs.declared.Served.{Served}

@@ -2,13 +2,13 @@
 mod reads;
 mod walks;
 
-use level::PLACES;
+use limits::ALL_NUMBERS;
+use limits::PLACES;
+use limits::operations;
 use records::Supply;
 use records::Version;
 use requests::Frame;
-use requests::operations;
 use served::Served;
-use walk::ROOM;
 ghost use mathlib.Core.Path.{_≡_};
 ghost use Rattle.records.specs.Records.{recordOf};
 ghost use Rattle.store.specs.Store.{storeOf};
@@ -55,7 +55,7 @@ pub fn act(
     counts: &mut [u32],
     cells: &mut [u32],
     order: &mut [u32],
-    numbers: &mut [u32; ROOM],
+    numbers: &mut [u32; ALL_NUMBERS],
     nodes: &mut [u32; PLACES],
     indices: &mut [i32; PLACES],
     supply: Supply,

@@ -1,8 +1,8 @@
 // The operations that change nothing.
+use limits::operations;
 use records::Supply;
 use records::Version;
 use requests::Frame;
-use requests::operations;
 use served::Served;
 ghost use mathlib.Core.Path.{_≡_};
 ghost use Prim.Native.Nat.{_≤_};

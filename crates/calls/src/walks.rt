@@ -1,45 +1,44 @@
 // The operations on walks: open, next, next_back and close.
-use level::PLACES;
+use limits::ALL_NUMBERS;
+use limits::PARTIES;
+use limits::PARTY_WALKS;
+use limits::PLACES;
+use limits::operations;
 use records::NodeNo;
 use records::Supply;
 use records::Version;
 use requests::Frame;
-use requests::operations;
 use served::Served;
-use walk::ROOM;
 ghost use mathlib.Core.Path.{_≡_};
 ghost use mathlib.Core.Bool.{Bool};
 ghost use Prim.Native.Nat.{_+_, _*_, _%_, _<_};
+ghost use Rattle.meaning.specs.Limits.{walkCount};
 ghost use Rattle.records.specs.Records.{recordOf};
 ghost use Rattle.store.specs.Store.{storeOf};
 ghost use Rattle.sweep.specs.Ready.{Releasable};
 ghost use Rattle.vector.specs.Ready.{Linkable};
-ghost use Rattle.walk.specs.Walk.{walks, slices, versionIn, Walkable, takenBy};
+ghost use Rattle.walk.specs.Walk.{slices, versionIn, Walkable, takenBy};
 ghost use Rattle.requests.specs.Requests.{frameOf};
 ghost use Rattle.served.specs.Acted.{actedOf};
 ghost use Rattle.calls.specs.Walks.{placeOf, Opens, Closes, Steps, OnWalk, withWalks, walkAct};
 
-const PARTIES: u8 = 8;
-
-const PARTY_WALKS: u8 = 2;
-
 // Where a walk of a party stands among all; a party or walk that is not there has some place too.
 pub fn walk_place(party: u8, walk: u8) -> u32
-    ensures { λ r. ⌜ (r ≡ placeOf party walk) × (r < walks) ⌝ }
+    ensures { λ r. ⌜ (r ≡ placeOf party walk) × (r < walkCount) ⌝ }
 {
     (PARTY_WALKS * (party % PARTIES) + walk % PARTY_WALKS) as u32
 }
 
 fn open(
     counts: &mut [u32],
-    numbers: &mut [u32; ROOM],
+    numbers: &mut [u32; ALL_NUMBERS],
     supply: Supply,
     n: u32,
     v: Version,
     old: Version,
 ) -> Served
     requires link { ⌜ Linkable (now counts) (v .root) ⌝ }
-    requires place { ⌜ n < walks ⌝ }
+    requires place { ⌜ n < walkCount ⌝ }
     ensures { λ r. ⌜ Opens (now (counts .entry)) (now (numbers .entry)) (supply .free) n (recordOf v) old (now (counts .exit)) (now (numbers .exit)) r ⌝ }
 {
     store::raise(counts, NodeNo(v.root));
@@ -53,7 +52,7 @@ fn close(
     counts: &mut [u32],
     cells: &[u32],
     order: &mut [u32],
-    numbers: &mut [u32; ROOM],
+    numbers: &mut [u32; ALL_NUMBERS],
     nodes: &mut [u32; PLACES],
     indices: &mut [i32; PLACES],
     supply: Supply,
@@ -61,7 +60,7 @@ fn close(
     old: Version,
 ) -> Served
     requires release { ⌜ Releasable (storeOf (now kinds) (now used) (now counts) (now cells) (now order) (supply .free)) (versionIn (now numbers) n .root) ⌝ }
-    requires place { ⌜ n < walks ⌝ }
+    requires place { ⌜ n < walkCount ⌝ }
     ensures { λ r. ⌜ Closes (storeOf (now (kinds .entry)) (now (used .entry)) (now (counts .entry)) (now (cells .entry)) (now (order .entry)) (supply .free))
         (slices (now (numbers .entry)) (now (nodes .entry)) (now (indices .entry))) n old
         (storeOf (now (kinds .exit)) (now (used .exit)) (now (counts .exit)) (now (cells .entry)) (now (order .exit)) (r .free))
@@ -77,7 +76,7 @@ fn close(
 fn step(
     cells: &[u32],
     used: &[u8],
-    numbers: &mut [u32; ROOM],
+    numbers: &mut [u32; ALL_NUMBERS],
     nodes: &mut [u32; PLACES],
     indices: &mut [i32; PLACES],
     supply: Supply,
@@ -99,7 +98,7 @@ pub fn act_on_walk(
     counts: &mut [u32],
     cells: &[u32],
     order: &mut [u32],
-    numbers: &mut [u32; ROOM],
+    numbers: &mut [u32; ALL_NUMBERS],
     nodes: &mut [u32; PLACES],
     indices: &mut [i32; PLACES],
     supply: Supply,

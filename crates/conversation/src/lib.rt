@@ -1,25 +1,27 @@
 // A piece of the program's input: its lines read, their frames run, the answers printed.
-use level::PLACES;
+use hexadecimal::LINE_SIZE;
+use limits::ALL_NUMBERS;
+use limits::ANSWER_SIZE;
+use limits::FRAME_SIZE;
+use limits::PLACES;
+use limits::VERSIONS;
 use records::Version;
-use walk::ROOM;
 ghost use Rattle.records.specs.Records.{recordsOf};
 ghost use Rattle.store.specs.Store.{storeOf};
 ghost use Rattle.walk.specs.Walk.{slices};
 ghost use Rattle.runs.specs.Runs.{runOf};
 ghost use Rattle.conversation.specs.Talks.{CanTalk, Talks};
 
-const SLOTS: usize = 64;
-
 // The most bytes of a piece.
 pub const PIECE: usize = 4096;
 
-const REQUEST_ROOM: usize = 12 * PIECE;
+const REQUEST_ROOM: usize = FRAME_SIZE * PIECE;
 
-const ANSWER_ROOM: usize = 6 * PIECE;
+const ANSWER_ROOM: usize = ANSWER_SIZE * PIECE;
 
 // The version records and the number of free nodes afterwards, what is kept of a line begun, and how many bytes were written.
 pub struct Talked {
-    pub versions: [Version; SLOTS],
+    pub versions: [Version; VERSIONS],
     pub free: usize,
     pub len: usize,
     pub written: usize,
@@ -32,13 +34,13 @@ pub fn talk(
     counts: &mut [u32],
     cells: &mut [u32],
     order: &mut [u32],
-    numbers: &mut [u32; ROOM],
+    numbers: &mut [u32; ALL_NUMBERS],
     nodes: &mut [u32; PLACES],
     indices: &mut [i32; PLACES],
     free: usize,
-    versions: [Version; SLOTS],
+    versions: [Version; VERSIONS],
     piece: &[u8],
-    begun: &mut [u8; 24],
+    begun: &mut [u8; LINE_SIZE],
     len: usize,
     out: &mut [u8],
 ) -> Talked

@@ -6,6 +6,7 @@ use mathlib.Core.List.{List}
 use Prim.Native.Nat.{ℕ}
 use lib.Dec.{eqb}
 use borrow.Author.Tests.{eq-eqb, ne-eqb}
+use Rattle.meaning.specs.Limits.{NEW, CLONE, SET, PUSH-BACK, HAND-OVER}
 use Rattle.meaning.specs.Lent.{Nodes, VersionRecord, emptyRecord}
 use Rattle.meaning.specs.Frames.{Frame}
 use Rattle.records.specs.Records.{recordOf}
@@ -17,7 +18,6 @@ use Rattle.paths.specs.Edits.{Edit, shareEdit}
 use Rattle.vector.specs.Calls.{calledOf, newCall, setCall, pushCall, dropCall}
 use Rattle.vector.specs.Ready.{editOf}
 use Rattle.vector.specs.declared.Edited.{Edited}
-use Rattle.requests.specs.Numbers.{NEW, CLONE, SET, PUSH-BACK, HAND-OVER}
 use Rattle.served.specs.Served.{answeredWith, editedWith}
 use Rattle.served.specs.Acted.{Acted, actedOf}
 use Rattle.served.specs.declared.Served.{Served}

@@ -2,7 +2,7 @@
 use mathlib.Core.Bool.{cond, _||_}
 use Prim.Native.Nat.{ℕ}
 use lib.Dec.{eqb}
-use Rattle.meaning.specs.Limits.{DONE}
+use Rattle.meaning.specs.Limits.{NEW, CLONE, SET, PUSH-BACK, HAND-OVER, DONE}
 use Rattle.meaning.specs.Lent.{VersionRecord, emptyRecord}
 use Rattle.meaning.specs.Frames.{Frame, Answer}
 use Rattle.shape.specs.Legal.{Legal}
@@ -12,7 +12,6 @@ use Rattle.sweep.specs.Sweep as sweep
 use Rattle.paths.specs.Edits.{shareEdit}
 use Rattle.vector.specs.Calls.{newCall, setCall, pushCall, dropCall}
 use Rattle.vector.specs.Ready.{Linkable, Editable, SetWay, PushWay, DropWay}
-use Rattle.requests.specs.Numbers.{NEW, CLONE, SET, PUSH-BACK, HAND-OVER}
 use Rattle.served.specs.Acted.{Acted, edited}
 
 -- every call can be made on a version

@@ -1,20 +1,20 @@
 // The operations that edit: what a frame that passes the first six checks makes of the store and of the record that it fills or empties.
+use limits::operations;
 use records::Supply;
 use records::Version;
 use requests::Frame;
-use requests::operations;
 use served::Served;
 ghost use mathlib.Core.Path.{_≡_};
 ghost use mathlib.Core.Logic.{_≢_};
 ghost use mathlib.Core.List.{List};
 ghost use Prim.Native.Nat.{ℕ};
+ghost use Rattle.meaning.specs.Limits.{NEW};
 ghost use Rattle.meaning.specs.Lent.{Nodes};
 ghost use Rattle.records.specs.Records.{recordOf};
 ghost use Rattle.store.specs.Store.{storeOf};
 ghost use Rattle.sweep.specs.Ready.{storeOn};
 ghost use Rattle.vector.specs.Ready.{Linkable, Steady};
 ghost use Rattle.requests.specs.Requests.{frameOf};
-ghost use Rattle.requests.specs.Numbers.{NEW};
 ghost use Rattle.served.specs.Acted.{actedOf};
 ghost use Rattle.edits.specs.Edits.{Able, sharedAct, releasedAct, pathAct, editAct};
 

@@ -5,7 +5,7 @@ use mathlib.Core.List.{List, _∷_}
 use Prim.Native.Nat.{ℕ, zero, suc}
 use lib.IntN.{ℤ, pos}
 use lib.ListN.{length, replicate}
-use Rattle.meaning.specs.Limits.{DONE, ILL-FORMED}
+use Rattle.meaning.specs.Limits.{versionCount, DONE, ILL-FORMED}
 use Rattle.meaning.specs.Lent.{VersionRecord, emptyRecord, Lent, size}
 use Rattle.meaning.specs.WellFormed.{SizesFit, WellFormed}
 use Rattle.meaning.specs.Fresh.{downFrom, freshState}
@@ -13,7 +13,7 @@ use Rattle.meaning.proofs.FreshLaws.{fresh-well-formed}
 use Rattle.records.specs.declared.Version.{Version}
 use Rattle.records.specs.Records.{recordOf, recordsOf}
 use Rattle.audit_model.specs.Made.{nodesOf, walksOf, lentOf}
-use Rattle.audit_model.specs.Audit.{versionCount, sizesOk}
+use Rattle.audit_model.specs.Audit.{sizesOk}
 use Rattle.audit_model.proofs.Tests.{true≢false}
 use Rattle.audit_model.proofs.Sizes.{lengths, lengths-unfit, sizes-fit, fit-sizes}
 use Rattle.form.specs.Forms.{zeros, Forms}

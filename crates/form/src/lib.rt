@@ -1,4 +1,7 @@
 // A fresh state in what a host lends. The cells of its nodes stay as they are.
+use limits::VERSIONS;
+use limits::numbers::DONE;
+use limits::numbers::ILL_FORMED;
 use records::Version;
 ghost use mathlib.Core.Path.{_≡_};
 ghost use Prim.Native.Nat.{_≤_};
@@ -7,12 +10,6 @@ ghost use lib.ListN.{length, replicate};
 ghost use Rattle.meaning.specs.Limits.{maxNodes};
 ghost use Rattle.meaning.specs.Fresh.{downFrom};
 ghost use Rattle.form.specs.Forms.{lentOf, zeros, Forms};
-
-const DONE: u8 = 0;
-
-const ILL_FORMED: u8 = 11;
-
-const SLOTS: usize = 64;
 
 fn clear_bytes(bytes: &mut [u8])
     ensures { λ _. ⌜ now (bytes .exit) ≡ zeros (now (bytes .entry)) ⌝ }
@@ -83,7 +80,7 @@ fn clear_walks(walk_numbers: &mut [u32], walk_nodes: &mut [u32], walk_indices: &
 // The number given back, and the table.
 pub struct Formed {
     pub number: u8,
-    pub versions: [Version; SLOTS],
+    pub versions: [Version; VERSIONS],
 }
 
 // Sizes that don't fit are refused, and nothing is written.
@@ -93,7 +90,7 @@ pub fn form(
     counts: &mut [u32],
     cells: &[u32],
     order: &mut [u32],
-    versions: [Version; SLOTS],
+    versions: [Version; VERSIONS],
     walk_numbers: &mut [u32],
     walk_nodes: &mut [u32],
     walk_indices: &mut [i32],
@@ -123,7 +120,7 @@ pub fn form(
     clear_nodes(kinds, used, counts, order);
     clear_walks(walk_numbers, walk_nodes, walk_indices);
     let empty = Version::empty();
-    let table = [empty; SLOTS];
+    let table = [empty; VERSIONS];
     Formed {
         number: DONE,
         versions: table,

@@ -1,4 +1,6 @@
 // Hexadecimal in capitals: a frame from its digits, and an answer as a line.
+use limits::ANSWER_SIZE;
+use limits::FRAME_SIZE;
 ghost use mathlib.Core.Path.{_≡_};
 ghost use mathlib.Core.Bool.{true};
 ghost use Prim.Native.Nat.{_+_, _≤_, _<_};
@@ -8,11 +10,13 @@ ghost use Rattle.meaning.specs.Limits.{frameSize, answerSize};
 ghost use Rattle.meaning.specs.Program.{isDigit, digitValue, digitByte, allDigits, fromHex};
 ghost use Rattle.hexadecimal.specs.Text.{lineSize, printedSize, printedAnswer};
 
-const FRAME_SIZE: usize = 12;
+// The digits of a frame.
+pub const LINE_SIZE: usize = 2 * FRAME_SIZE;
 
-const ANSWER_SIZE: usize = 6;
+// The digits of an answer and a line feed.
+pub const PRINTED_SIZE: usize = 2 * ANSWER_SIZE + 1;
 
-const LINE_FEED: u8 = 10;
+pub const LINE_FEED: u8 = b'\n';
 
 fn is_digit(b: u8) -> bool
     ensures { λ r. ⌜ r ≡ isDigit b ⌝ }

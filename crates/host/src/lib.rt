@@ -1,5 +1,8 @@
 // What a host and its plug-ins link: the calls, over what a host lends.
 use lending::Sizes;
+use limits::VERSIONS;
+use limits::numbers::DONE;
+use limits::numbers::ILL_FORMED;
 use records::Version;
 use version_table::store_table;
 use version_table::table_of;
@@ -8,14 +11,6 @@ ghost use Rattle.lending.specs.Lending.{Sized};
 ghost use Rattle.form.specs.Forms.{lentOf, Forms};
 ghost use Rattle.batch.specs.Batched.{Batches};
 ghost use Rattle.host.specs.Reports.{doneWith, FormsOf, BatchesOf};
-
-const SLOTS: usize = 64;
-
-// ---- numbers given back
-
-const DONE: u8 = 0;
-
-const ILL_FORMED: u8 = 11;
 
 // What a call reports: the number given back, and how many frames ran.
 #[repr(C)]
@@ -28,10 +23,10 @@ pub struct Report {
 pub struct Done {
     pub report: Report,
     pub stores: bool,
-    pub versions: [Version; SLOTS],
+    pub versions: [Version; VERSIONS],
 }
 
-fn done_with(number: u8, frames: usize, versions: [Version; SLOTS]) -> Done
+fn done_with(number: u8, frames: usize, versions: [Version; VERSIONS]) -> Done
     ensures { λ r. ⌜ r ≡ doneWith number frames versions ⌝ }
 {
     let report = Report {
@@ -53,7 +48,7 @@ fn form_table(
     cells: &[u32],
     order: &mut [u32],
     count: usize,
-    versions: [Version; SLOTS],
+    versions: [Version; VERSIONS],
     walk_numbers: &mut [u32],
     walk_nodes: &mut [u32],
     walk_indices: &mut [i32],
@@ -64,7 +59,7 @@ fn form_table(
         (lentOf (now (kinds .exit)) (now (used .exit)) (now (counts .exit)) (now (cells .entry)) (now (order .exit)) (r .versions)
         (now («walk_numbers» .exit)) (now («walk_nodes» .exit)) (now («walk_indices» .exit))) r ⌝ }
 {
-    if count != SLOTS {
+    if count != VERSIONS {
         return done_with(ILL_FORMED, 0, versions);
     }
     let r = form::form(
@@ -135,7 +130,7 @@ fn batch_table(
     cells: &mut [u32],
     order: &mut [u32],
     count: usize,
-    versions: [Version; SLOTS],
+    versions: [Version; VERSIONS],
     walk_numbers: &mut [u32],
     walk_nodes: &mut [u32],
     walk_indices: &mut [i32],
@@ -149,7 +144,7 @@ fn batch_table(
         (now («walk_numbers» .exit)) (now («walk_nodes» .exit)) (now («walk_indices» .exit)))
         (now (requests .entry)) (now (room .entry)) (now (room .exit)) r ⌝ }
 {
-    if count != SLOTS {
+    if count != VERSIONS {
         let number = lending::refusal_of_sizes(requests.len(), room.len());
         return done_with(number, 0, versions);
     }

@@ -6,10 +6,6 @@ ghost use lib.IntN.{pos};
 ghost use Rattle.meaning.specs.Limits.{nodeCells};
 ghost use Rattle.index.specs.Index as spec;
 
-const CELLS: i32 = 32;
-
-const NODE_CELLS: u32 = 32;
-
 // Where a level of so many cells begins: from the back below zero where there are none.
 pub fn first(back: bool, used: u8) -> i32
     ensures { λ r. ⌜ r ≡ spec.first back used ⌝ }
@@ -36,13 +32,15 @@ pub fn advance(back: bool, index: i32) -> i32
 }
 
 // Held past the last cell.
+const PAST_LAST: i32 = limits::NODE_CELLS as i32;
+
 fn up(index: i32) -> i32
     ensures { λ r. ⌜ r ≡ spec.advanced false index ⌝ }
 {
-    if index < CELLS {
+    if index < PAST_LAST {
         return index + 1;
     }
-    CELLS
+    PAST_LAST
 }
 
 // Stops below zero.
@@ -98,7 +96,7 @@ fn cells_left(back: bool, used: u8, i: u32) -> u32
 fn below(i: u32) -> u32
     ensures { λ r. ⌜ (0 < r → spec.Within true i r) ⌝ }
 {
-    if i < NODE_CELLS {
+    if i < limits::words::NODE_CELLS {
         return i;
     }
     0
@@ -111,7 +109,7 @@ fn above(used: u8, i: u32) -> u32
     if u <= i {
         return 0;
     }
-    if u > NODE_CELLS {
+    if u > limits::words::NODE_CELLS {
         return 0;
     }
     u - 1 - i

@@ -2,12 +2,13 @@
 use mathlib.Core.Path.{_≡_}
 use mathlib.Core.Logic.{_↔_}
 use mathlib.Core.Bool.{cond}
-use Prim.Native.Nat.{ℕ, _*_, _/_, _%_, _≤_}
+use Prim.Native.Nat.{ℕ, _/_, _%_, _≤_}
 use lib.Dec.{eqb, ltb}
 use lib.ListN.{length}
-use Rattle.meaning.specs.Limits.{maxNodes, frameSize, answerSize, ILL-FORMED, NO-ROOM, RAGGED}
+use Rattle.meaning.specs.Limits.{maxNodes, frameSize, ILL-FORMED, NO-ROOM, RAGGED}
 use Rattle.meaning.specs.Lent.{Lent, size}
 use Rattle.meaning.specs.WellFormed.{SizesFit}
+use Rattle.requests.specs.Requests.{answerPlace}
 use Rattle.lending.specs.declared.Sizes.{Sizes}
 
 abbrev pub noSizes : Sizes
@@ -34,4 +35,4 @@ pub record Sized (n : ℕ) (r : Sizes) : Type 0 where
 
 -- a batch on a state that can't be well-formed: batch checks run 13, 12, 11
 abbrev pub refusalOf : (asked room : ℕ) → ℕ
-refusalOf asked room = cond (eqb (asked % frameSize) 0) (cond (ltb room (answerSize * (asked / frameSize))) NO-ROOM ILL-FORMED) RAGGED
+refusalOf asked room = cond (eqb (asked % frameSize) 0) (cond (ltb room (answerPlace (asked / frameSize))) NO-ROOM ILL-FORMED) RAGGED

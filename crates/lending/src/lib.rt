@@ -1,17 +1,15 @@
 // How much a host lends, and the number of a batch that lends too much or too little.
+use limits::ALL_NUMBERS;
+use limits::FRAME_SIZE;
+use limits::MAX_NODES;
+use limits::NODE_CELLS;
+use limits::PLACES;
+use limits::VERSIONS;
+use limits::numbers::ILL_FORMED;
+use limits::numbers::NO_ROOM;
+use limits::numbers::RAGGED;
 ghost use mathlib.Core.Path.{_≡_};
 ghost use Rattle.lending.specs.Lending.{noSizes, Sized, refusalOf};
-
-const MAX_NODES: usize = 65536;
-
-const NODE_CELLS: usize = 32;
-
-const SLOTS: usize = 64;
-
-// Of sixteen walks, each with six numbers, and with two stacks of fifteen levels.
-const WALK_NUMBERS: usize = 16 * 6;
-
-const WALK_LEVELS: usize = 16 * 2 * 15;
 
 // How many elements each slice has.
 #[repr(C)]
@@ -59,24 +57,12 @@ pub fn sizes_of(nodes: usize) -> Sizes
         cells: NODE_CELLS * nodes,
         counts: nodes,
         order: nodes,
-        versions: SLOTS,
-        walk_numbers: WALK_NUMBERS,
-        walk_nodes: WALK_LEVELS,
-        walk_indices: WALK_LEVELS,
+        versions: VERSIONS,
+        walk_numbers: ALL_NUMBERS,
+        walk_nodes: PLACES,
+        walk_indices: PLACES,
     }
 }
-
-// ---- numbers given back
-
-const FRAME_SIZE: usize = 12;
-
-const ANSWER_SIZE: usize = 6;
-
-const ILL_FORMED: u8 = 11;
-
-const NO_ROOM: u8 = 12;
-
-const RAGGED: u8 = 13;
 
 // The number of a batch whose table has another length.
 pub fn refusal_of_sizes(asked: usize, room: usize) -> u8
@@ -85,7 +71,7 @@ pub fn refusal_of_sizes(asked: usize, room: usize) -> u8
     if asked % FRAME_SIZE != 0 {
         return RAGGED;
     }
-    if room < ANSWER_SIZE * (asked / FRAME_SIZE) {
+    if room < requests::answer_place(asked / FRAME_SIZE) {
         return NO_ROOM;
     }
     ILL_FORMED

@@ -4,11 +4,8 @@ use mathlib.Core.List.{List}
 use Prim.Native.Nat.{ℕ, _+_, _*_}
 use lib.ListN.{getD, set}
 use lib.IntN.{ℤ, pos}
-use Rattle.meaning.specs.Limits.{nodeCells, parties, partyWalks, walkLevels}
+use Rattle.meaning.specs.Limits.{nodeCells}
 use Rattle.index.specs.Index.{first, advanced, finished, place, along, Stays}
-
-abbrev pub places : ℕ
-places = parties * partyWalks * (2 * walkLevels)
 
 pub record Levels : Type 0 where
   pub nodes : List ℕ

@@ -1,17 +1,13 @@
 // One level of a walk, changed in place: a node and a signed index. The levels of sixteen walks stand in two arrays, and a level is named by its place.
+use limits::PLACES;
 use records::NodeNo;
 ghost use mathlib.Core.Path.{_≡_};
 ghost use mathlib.Core.Bool.{Bool, true, false};
 ghost use Prim.Native.Nat.{_+_, _<_};
 ghost use lib.ListN.{getD};
-ghost use Rattle.level.specs.Level.{places, levels, currentAt, pushed, popped, dug, steppedAt, endedAt, placeAt, StaysAt, passedAt};
+ghost use Rattle.meaning.specs.Limits.{places};
+ghost use Rattle.level.specs.Level.{levels, currentAt, pushed, popped, dug, steppedAt, endedAt, placeAt, StaysAt, passedAt};
 ghost use Rattle.index.specs.Index.{Within};
-
-pub const WALKS: usize = 16;
-
-pub const LEVELS: usize = 15;
-
-pub const PLACES: usize = WALKS * (2 * LEVELS);
 
 // How many cells a node uses, or 0 where there is none: no caller has to show that a node is there.
 fn used_of(used: &[u8], node: NodeNo) -> u8

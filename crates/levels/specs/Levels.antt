@@ -3,9 +3,9 @@ use mathlib.Core.Bool.{Bool, true, false, cond}
 use mathlib.Core.List.{List}
 use Prim.Native.Nat.{ℕ, zero, suc, _+_, _≤_}
 use lib.Dec.{eqb}
-use Rattle.meaning.specs.Limits.{walkLevels}
+use Rattle.meaning.specs.Limits.{walkLevels, places}
 use Rattle.shape.specs.Legal.{Legal}
-use Rattle.level.specs.Level.{places, Levels, levels, currentAt, pushed, popped, dug, steppedAt, endedAt}
+use Rattle.level.specs.Level.{Levels, levels, currentAt, pushed, popped, dug, steppedAt, endedAt}
 
 -- a stack of a version with these numbers has room from place k
 pub record HasStack (bits length k : ℕ) : Type 0 where

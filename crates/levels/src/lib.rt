@@ -1,13 +1,14 @@
 // A stack of levels, changed in place: the leaf's level first, from its place upwards.
-use level::PLACES;
+use limits::PLACES;
 use records::Version;
 ghost use mathlib.Core.Path.{_≡_};
 ghost use mathlib.Core.Bool.{Bool, true, false};
 ghost use mathlib.Core.List.{List};
 ghost use Prim.Native.Nat.{ℕ, suc, _+_, _<_, _≤_};
 ghost use lib.Dec.{ltb};
+ghost use Rattle.meaning.specs.Limits.{places};
 ghost use Rattle.meaning.specs.Shape.{height};
-ghost use Rattle.level.specs.Level.{places, levels};
+ghost use Rattle.level.specs.Level.{levels};
 ghost use Rattle.levels.specs.Levels.{out, advancedBy, renewedDown, dugDown, poppedDown, initialised, took, oneTaken, HasStack};
 
 // Steps the m levels from k, up to the first that has not finished, and answers how many have. What is left to do goes from there down.

@@ -1,6 +1,7 @@
 // The sizes and limits of document 01, each declared once and proved to be what `meaning` calls by its name.
 pub mod numbers;
 pub mod operations;
+pub mod words;
 
 ghost use mathlib.Core.Path.{_≡_};
 ghost use mathlib.Core.List.{[], _∷_};

@@ -14,6 +14,7 @@ use borrow.Author.Tests.{eq-eqb, ne-eqb}
 use Rattle.meaning.specs.Limits.{answerSize, NOT-A-FRAME}
 use Rattle.meaning.specs.Frames.{toBytes, encode}
 use Rattle.meaning.specs.Serve.{refused}
+use Rattle.requests.specs.Requests.{answerPlace}
 use Rattle.hexadecimal.specs.Text.{printedAnswer, printedSize}
 use Rattle.lines.specs.Lines.{FRAME, framesMarked}
 use Rattle.lines.specs.Printing.{printedLine, printed, CanPrintLine, PrintsLine, CanPrint, Prints}
@@ -35,28 +36,28 @@ unfolding framesMarked
 no-frames mark f = rw (ne-eqb mark FRAME f)
 
 module _ (mark : ℕ) (answers : List ℕ) (frames : ℕ) (out : List ℕ) (at : ℕ) (can : CanPrintLine mark answers frames out at) where
-  pub frame-answered : mark ≡ FRAME → answerSize * frames + answerSize ≤ length answers
+  pub frame-answered : mark ≡ FRAME → answerPlace frames + answerSize ≤ length answers
   frame-answered e = omega (arith, can .answered, one-frame mark e)
 
-  pub frame-prints : (out′ : List ℕ) → mark ≡ FRAME
-      → out′ ≡ paste out at (printedAnswer (take (answerSize * frames + answerSize - answerSize * frames) (drop (answerSize * frames) answers))) printedSize
+  pub frame-prints : (out′ : List ℕ) (start : ℕ) → mark ≡ FRAME → start ≡ answerPlace frames
+      → out′ ≡ paste out at (printedAnswer (take (start + answerSize - start) (drop start answers))) printedSize
       → PrintsLine mark answers frames out at (frames + 1) out′
   unfolding printedLine
-  frame-prints out′ e p =
-      let s : answerSize * frames + answerSize - answerSize * frames ≡ answerSize = omega arith in
-      record { counted = rw (one-frame mark e); text = rw (eq-eqb mark FRAME e) (rw s at p) }
+  frame-prints out′ start e begins p =
+      let s : start + answerSize - start ≡ answerSize = omega arith in
+      record { counted = rw (one-frame mark e); text = rw (eq-eqb mark FRAME e) (rw (s, begins) at p) }
 
   pub other-prints : (out′ : List ℕ) → mark ≢ FRAME → out′ ≡ paste out at (printedAnswer (NOT-A-FRAME ∷ 0 ∷ 0 ∷ 0 ∷ 0 ∷ 0 ∷ [])) printedSize
       → PrintsLine mark answers frames out at frames out′
   unfolding printedLine encode toBytes refused
   other-prints out′ f p = record { counted = omega (arith, no-frames mark f); text = rw (ne-eqb mark FRAME f) p }
 
-  line-length : length (printedLine mark (drop (answerSize * frames) answers)) ≡ printedSize
+  line-length : length (printedLine mark (drop (answerPlace frames) answers)) ≡ printedSize
   unfolding printedLine framesMarked
   line-length = by (eqb mark FRAME) (can .answered)
     where
       bs : List ℕ
-      bs = drop (answerSize * frames) answers
+      bs = drop (answerPlace frames) answers
 
       by : (o : Bool) → answerSize * (frames + cond o 1 0) ≤ length answers → length (printedAnswer (cond o (take answerSize bs) (encode (refused NOT-A-FRAME)))) ≡ printedSize
       by true l = row-length (take answerSize bs) (length-take-le answerSize bs (simp length-drop (omega arith)))
@@ -94,7 +95,7 @@ module _ (marks : List ℕ) (lines : ℕ) (answers out₀ : List ℕ) (can : Can
       → (length out′ ≡ length out₀) × (frames′ ≡ framesMarked (take (i + 1) marks)) × (take (printedSize * (i + 1)) out′ ≡ printed (take (i + 1) marks) answers)
   next-printed frames′ out′ p h =
       let at : ℕ = printedSize * i in
-      let row : List ℕ = printedLine mark (drop (answerSize * frames) answers) in
+      let row : List ℕ = printedLine mark (drop (answerPlace frames) answers) in
       let z : length row ≡ printedSize = line-length mark answers frames out at line-can in
       let a : take printedSize row ≡ row = take-all printedSize row (omega arith) in
       let e : printedSize * (i + 1) ≡ printedSize * i + printedSize = omega arith in

@@ -14,6 +14,7 @@ use borrow.Author.Tests.{ne-eqb, eq-eqb}
 use Rattle.meaning.specs.Limits.{frameSize}
 use Rattle.meaning.specs.Counting.{bit}
 use Rattle.meaning.specs.Program.{lineFeed, allDigits, fromHex}
+use Rattle.requests.specs.Requests.{framePlace}
 use Rattle.hexadecimal.specs.Text.{lineSize}
 use Rattle.lines.specs.Lines.{tooLong, wholeLines, leftOver, Keeps, FRAME, markedLines, framesMarked}
 use Rattle.lines.specs.Reading.{HasRoom, EndsLine, FrameAt, Reads, Bounded, CanReadOn, ReadsOn, ReadsPiece}
@@ -31,7 +32,7 @@ module _ (isFrame : Bool) (digits marks requests : List ℕ) (lines frames : ℕ
   pub ends-other : isFrame ≡ false → EndsLine isFrame digits marks requests lines frames (set marks lines 0) requests frames
   ends-other e = record { marked = rw e; read = rw e; counted = rw e (omega arith) }
 
-  pub ends-frame : (marks′ requests′ : List ℕ) → isFrame ≡ true → marks′ ≡ set marks lines FRAME → requests′ ≡ paste requests (frameSize * frames) (fromHex digits) frameSize
+  pub ends-frame : (marks′ requests′ : List ℕ) → isFrame ≡ true → marks′ ≡ set marks lines FRAME → requests′ ≡ paste requests (framePlace frames) (fromHex digits) frameSize
       → EndsLine isFrame digits marks requests lines frames marks′ requests′ (frames + 1)
   ends-frame marks′ requests′ e p q = record { marked = rw e p; read = rw e q; counted = rw e }
 
@@ -102,10 +103,10 @@ module _ (piece : List ℕ) (at len : ℕ) (marks requests : List ℕ) (lines fr
         reads = λ line r. rw (next-is, f) (feed-read line (take at piece) bytes len marks requests lines frames r marks′ requests′ frames′ has-room h);
       }
 
-  pub frame-on : (bytes marks′ requests′ : List ℕ) → len ≡ 0 → FrameAt piece at → marks′ ≡ set marks lines FRAME → requests′ ≡ paste requests (frameSize * frames) (fromHex (take (at + lineSize - at) (drop at piece))) frameSize
+  pub frame-on : (bytes marks′ requests′ : List ℕ) → len ≡ 0 → FrameAt piece at → marks′ ≡ set marks lines FRAME → requests′ ≡ paste requests (framePlace frames) (fromHex (take (at + lineSize - at) (drop at piece))) frameSize
       → ReadsOn piece bytes at len marks requests lines frames bytes (at + lineSize + 1) 0 marks′ requests′ (lines + 1) (frames + 1)
   frame-on bytes marks′ requests′ z h p q =
-      let q′ : requests′ ≡ paste requests (frameSize * frames) (fromHex (digits piece at h)) frameSize = rw (part-size at lineSize) at q in
+      let q′ : requests′ ≡ paste requests (framePlace frames) (fromHex (digits piece at h)) frameSize = rw (part-size at lineSize) at q in
       record {
         further = omega arith;
         inside = omega (arith, h .inside);

@@ -9,6 +9,7 @@ use lib.Seq.{paste}
 use Rattle.meaning.specs.Limits.{answerSize, NOT-A-FRAME}
 use Rattle.meaning.specs.Frames.{encode}
 use Rattle.meaning.specs.Serve.{refused}
+use Rattle.requests.specs.Requests.{answerPlace}
 use Rattle.hexadecimal.specs.Text.{printedSize, printedAnswer}
 use Rattle.lines.specs.Lines.{FRAME, framesMarked}
 
@@ -25,17 +26,17 @@ printed (m ∷ ms) bs = printedLine m bs ++ printed ms (cond (eqb m FRAME) (drop
 
 -- a line's answer, from a place on
 pub record CanPrintLine (mark : ℕ) (answers : List ℕ) (frames : ℕ) (out : List ℕ) (at : ℕ) : Type 0 where
-  pub answered : answerSize * (frames + framesMarked (mark ∷ [])) ≤ length answers
+  pub answered : answerPlace (frames + framesMarked (mark ∷ [])) ≤ length answers
   pub room : at + printedSize ≤ length out
 
 pub record PrintsLine (mark : ℕ) (answers : List ℕ) (frames : ℕ) (out : List ℕ) (at : ℕ) (frames′ : ℕ) (out′ : List ℕ) : Type 0 where
   pub counted : frames′ ≡ frames + framesMarked (mark ∷ [])
-  pub text : out′ ≡ paste out at (printedLine mark (drop (answerSize * frames) answers)) printedSize
+  pub text : out′ ≡ paste out at (printedLine mark (drop (answerPlace frames) answers)) printedSize
 
 -- the answers to all lines
 pub record CanPrint (marks : List ℕ) (lines : ℕ) (answers out : List ℕ) : Type 0 where
   pub marked : lines ≤ length marks
-  pub answered : answerSize * framesMarked (take lines marks) ≤ length answers
+  pub answered : answerPlace (framesMarked (take lines marks)) ≤ length answers
   pub room : printedSize * lines ≤ length out
 
 pub record Prints (marks : List ℕ) (lines : ℕ) (answers : List ℕ) (written : ℕ) (out : List ℕ) : Type 0 where

@@ -2,12 +2,13 @@
 use mathlib.Core.Path.{_≡_}
 use mathlib.Core.Bool.{Bool, true, cond}
 use mathlib.Core.List.{List}
-use Prim.Native.Nat.{ℕ, _+_, _*_, _≤_, _<_}
+use Prim.Native.Nat.{ℕ, _+_, _≤_, _<_}
 use lib.ListN.{length, getD, take, drop, set}
 use lib.Seq.{paste}
 use Rattle.meaning.specs.Limits.{frameSize}
 use Rattle.meaning.specs.Counting.{bit}
 use Rattle.meaning.specs.Program.{lineFeed, allDigits, fromHex}
+use Rattle.requests.specs.Requests.{framePlace}
 use Rattle.hexadecimal.specs.Text.{lineSize}
 use Rattle.lines.specs.Lines.{tooLong, wholeLines, leftOver, Keeps, markedLines, framesMarked}
 
@@ -16,12 +17,12 @@ use Rattle.lines.specs.Lines.{tooLong, wholeLines, leftOver, Keeps, mark
 -- places for its mark and its bytes
 pub record HasRoom (marks requests : List ℕ) (lines frames : ℕ) : Type 0 where
   pub mark : lines < length marks
-  pub bytes : frameSize * frames + frameSize ≤ length requests
+  pub bytes : framePlace frames + frameSize ≤ length requests
 
 -- it is marked, and if it is a frame its digits are read
 pub record EndsLine (isFrame : Bool) (digits marks requests : List ℕ) (lines frames : ℕ) (marks′ requests′ : List ℕ) (frames′ : ℕ) : Type 0 where
   pub marked : marks′ ≡ set marks lines (bit isFrame)
-  pub read : requests′ ≡ cond isFrame (paste requests (frameSize * frames) (fromHex digits) frameSize) requests
+  pub read : requests′ ≡ cond isFrame (paste requests (framePlace frames) (fromHex digits) frameSize) requests
   pub counted : frames′ ≡ frames + bit isFrame
 
 -- a frame's digits and a line feed stand there
@@ -41,7 +42,7 @@ pub record Reads (line done bytes : List ℕ) (len : ℕ) (marks requests : List
 pub record CanRead (piece : List ℕ) (len : ℕ) (marks requests : List ℕ) : Type 0 where
   pub kept : len ≤ tooLong
   pub markRoom : length piece ≤ length marks
-  pub requestRoom : frameSize * length piece ≤ length requests
+  pub requestRoom : framePlace (length piece) ≤ length requests
 
 -- no more lines than bytes read, and no more frames than lines
 pub record Bounded (at len lines frames : ℕ) : Type 0 where

@@ -1,4 +1,9 @@
 // The program's lines: the frames among them, and the answers to them as text.
+use hexadecimal::LINE_FEED;
+use hexadecimal::LINE_SIZE;
+use hexadecimal::PRINTED_SIZE;
+use limits::ANSWER_SIZE;
+use limits::numbers::NOT_A_FRAME;
 ghost use mathlib.Core.Path.{_≡_};
 ghost use mathlib.Core.Bool.{true, _&&_};
 ghost use mathlib.Core.List.{List, [], _∷_, _++_};
@@ -8,30 +13,19 @@ ghost use lib.ListN.{length, set};
 ghost use lib.Seq.{paste};
 ghost use Rattle.meaning.specs.Limits.{frameSize};
 ghost use Rattle.meaning.specs.Program.{allDigits, fromHex};
+ghost use Rattle.requests.specs.Requests.{framePlace};
 ghost use Rattle.hexadecimal.specs.Text.{lineSize};
 ghost use Rattle.lines.specs.Lines.{tooLong, Keeps, FRAME};
 ghost use Rattle.lines.specs.Reading.{HasRoom, EndsLine, FrameAt, CanRead, CanReadOn, ReadsOn, ReadsPiece};
 ghost use Rattle.lines.specs.Printing.{CanPrintLine, PrintsLine, CanPrint, Prints};
 
-const LINE_SIZE: usize = 24;
-
 // Kept as the length of any longer line.
-const TOO_LONG: usize = 25;
-
-const FRAME_SIZE: usize = 12;
-
-const ANSWER_SIZE: usize = 6;
-
-const PRINTED_SIZE: usize = 13;
-
-const LINE_FEED: u8 = 10;
+const TOO_LONG: usize = LINE_SIZE + 1;
 
 // The marks of lines.
 pub const FRAME: u8 = 1;
 
 pub const OTHER: u8 = 0;
-
-const NOT_A_FRAME: u8 = 14;
 
 // Writes the answer to a line of that mark; how many frames are answered then.
 fn print_line(mark: u8, answers: &[u8], frames: usize, out: &mut [u8], at: usize) -> usize
@@ -39,12 +33,12 @@ fn print_line(mark: u8, answers: &[u8], frames: usize, out: &mut [u8], at: usize
     ensures { λ r. ⌜ PrintsLine mark (now (answers .entry)) frames (now (out .entry)) at r (now (out .exit)) ⌝ }
 {
     if mark == FRAME {
-        let start = ANSWER_SIZE * frames;
+        let start = requests::answer_place(frames);
         let end = start + ANSWER_SIZE;
         hexadecimal::print_answer(&answers[start..end], out, at);
         return frames + 1;
     }
-    let refused: [u8; 6] = [NOT_A_FRAME, 0, 0, 0, 0, 0];
+    let refused: [u8; ANSWER_SIZE] = [NOT_A_FRAME, 0, 0, 0, 0, 0];
     hexadecimal::print_answer(&refused, out, at);
     frames
 }
@@ -64,7 +58,7 @@ pub fn print_answers(marks: &[u8], lines: usize, answers: &[u8], out: &mut [u8])
 }
 
 // Keeps one byte more of a line begun.
-fn keep_byte(begun: &mut [u8; 24], len: usize, b: u8) -> usize
+fn keep_byte(begun: &mut [u8; LINE_SIZE], len: usize, b: u8) -> usize
     requires { ⌜ len ≤ tooLong ⌝ }
     ensures { λ r. ⌜ (r ≤ tooLong) × ((line : List ℕ) → Keeps (now (begun .entry)) len line → Keeps (now (begun .exit)) r (line ++ (b ∷ []))) ⌝ }
 {
@@ -78,15 +72,15 @@ fn keep_byte(begun: &mut [u8; 24], len: usize, b: u8) -> usize
 fn mark_frame(text: &[u8], marks: &mut [u8], requests: &mut [u8], lines: usize, frames: usize)
     requires { ⌜ (length (now text) ≡ lineSize) × (allDigits (now text) ≡ true) × HasRoom (now marks) (now requests) lines frames ⌝ }
     ensures { λ _. ⌜ (now (marks .exit) ≡ set (now (marks .entry)) lines FRAME)
-        × (now (requests .exit) ≡ paste (now (requests .entry)) (frameSize * frames) (fromHex (now (text .entry))) frameSize) ⌝ }
+        × (now (requests .exit) ≡ paste (now (requests .entry)) (framePlace frames) (fromHex (now (text .entry))) frameSize) ⌝ }
 {
-    hexadecimal::put_frame(text, requests, FRAME_SIZE * frames);
+    hexadecimal::put_frame(text, requests, requests::frame_place(frames));
     marks[lines] = FRAME;
 }
 
 // Marks the line that was begun; how many frames there are then.
 fn end_line(
-    begun: &[u8; 24],
+    begun: &[u8; LINE_SIZE],
     len: usize,
     marks: &mut [u8],
     requests: &mut [u8],
@@ -135,7 +129,7 @@ struct Reading {
 
 fn read_byte(
     piece: &[u8],
-    begun: &mut [u8; 24],
+    begun: &mut [u8; LINE_SIZE],
     marks: &mut [u8],
     requests: &mut [u8],
     s: Reading,
@@ -183,7 +177,7 @@ fn read_frame(piece: &[u8], marks: &mut [u8], requests: &mut [u8], s: Reading) -
 
 fn read_on(
     piece: &[u8],
-    begun: &mut [u8; 24],
+    begun: &mut [u8; LINE_SIZE],
     marks: &mut [u8],
     requests: &mut [u8],
     s: Reading,
@@ -212,7 +206,7 @@ pub struct ReadLines {
 // Marks the lines that end in a piece, and puts the bytes of the frames among them one after the other.
 pub fn read_lines(
     piece: &[u8],
-    begun: &mut [u8; 24],
+    begun: &mut [u8; LINE_SIZE],
     len: usize,
     marks: &mut [u8],
     requests: &mut [u8],

@@ -14,7 +14,7 @@ ghost use Rattle.lookup.specs.Lookup.{leafIn, elementIn, got};
 pub fn cell_at(cells: &[u32], node: NodeNo, i: u32) -> u32
     ensures { λ r. ⌜ r ≡ getD (now (cells .entry)) (nodeCells * node .0 + i) 0 ⌝ }
 {
-    let at = 32 * (node.0 as usize) + (i as usize);
+    let at = limits::NODE_CELLS * (node.0 as usize) + (i as usize);
     if at < cells.len() {
         return cells[at];
     }

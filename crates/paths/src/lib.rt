@@ -1,4 +1,5 @@
 // Module 3: path copying. The nodes from a root to one leaf are made anew, bottom up, and everything beside them is shared.
+use limits::NODE_CELLS;
 use records::NodeNo;
 use shape::vector_utils;
 use store::Made;
@@ -14,7 +15,7 @@ ghost use Rattle.paths.specs.Ready.{madeOf, sourceOf, HasCells, CanMake,
 
 // A node that is copied: its cells, and how many it uses.
 pub struct Source {
-    pub cells: [u32; 32],
+    pub cells: [u32; NODE_CELLS],
     pub used: u8,
 }
 
@@ -32,7 +33,7 @@ pub fn source_of(used: &[u8], cells: &[u32], there: bool, n: NodeNo) -> Source
         };
     }
     Source {
-        cells: [0; 32],
+        cells: [0; NODE_CELLS],
         used: 0,
     }
 }
@@ -49,7 +50,7 @@ pub fn new_empty_leaf(
     ensures { λ r. ⌜ madeOf (storeOf (now (kinds .exit)) (now (used .exit)) (now (counts .exit)) (now (cells .exit)) (now (order .entry)) (r .free)) (r .node .0)
         ≡ emptyLeaf (storeOf (now (kinds .entry)) (now (used .entry)) (now (counts .entry)) (now (cells .entry)) (now (order .entry)) free) ⌝ }
 {
-    store::make_leaf(kinds, used, counts, cells, order, free, 0, [0; 32])
+    store::make_leaf(kinds, used, counts, cells, order, free, 0, [0; NODE_CELLS])
 }
 
 // How many cells are in use once cell b is, which is one of them or the next.
@@ -185,7 +186,7 @@ pub fn grow(
         index,
         value,
     );
-    let mut a = [0u32; 32];
+    let mut a = [0u32; NODE_CELLS];
     a[0] = root.0;
     let c = Source { cells: a, used: 1 };
     branch_with(kinds, used, counts, cells, order, r.free, c, 1, r.node)

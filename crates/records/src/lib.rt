@@ -25,7 +25,7 @@ pub struct Version {
 }
 
 impl Version {
-    pub const DEFAULT_BITS: u32 = 5;
+    pub const DEFAULT_BITS: u32 = limits::DEFAULT_BITS;
 
     // The record of an empty slot.
     pub fn empty() -> Version

@@ -10,12 +10,11 @@ use borrow.Author.Tests.{ne-eqb}
 use lib.Dec.{ltb, eqb}
 use lib.Bits.{bitAnd}
 use lib.ListN.{length, getD, List·getD-map, List·getD-eq-default}
-use Rattle.meaning.specs.Limits.{DONE, lastParty, lastSlot, lastWalk, lastOperation, host, NO-PARTY, NO-OPERATION, HOST-ONLY, OUT-OF-RANGE, EMPTY-SOURCE, LIVE-TARGET}
+use Rattle.meaning.specs.Limits.{lastParty, lastSlot, lastWalk, host, HAND-OVER, lastOperation, DONE, NO-PARTY, NO-OPERATION, HOST-ONLY, OUT-OF-RANGE, EMPTY-SOURCE, LIVE-TARGET}
 use Rattle.meaning.specs.Frames.{Frame}
 use Rattle.meaning.specs.Operations.{Op, new, clone, release, len, get, set-at, push-back, drop-last, open-walk, next, next-back, close-walk, hand-over, free-nodes, first, last, compare, unknown, operations, opOf, anyone, hostAlone, uses, ownerOr, giver, taker}
 use Rattle.meaning.specs.Checks.{Standing, noFault, faults, anyField, _if_, entryChecks, firstOf}
 use Rattle.meaning.proofs.Booleans.{or-none}
-use Rattle.requests.specs.Numbers.{HAND-OVER}
 use Rattle.refusals.specs.Flags.{SOURCE, WALKED, FILLED, OPENED, OTHER, OWNERS, HOST-ALONE, flagOf, flagsOf}
 
 -- ---- the table of flags

@@ -1,6 +1,19 @@
 // The frame checks 1 to 6, from one table of what an operation uses, and whose slots and walks a frame names.
+use limits::HOST;
+use limits::LAST_OPERATION;
+use limits::LAST_PARTY;
+use limits::LAST_SLOT;
+use limits::LAST_WALK;
+use limits::numbers::DONE;
+use limits::numbers::EMPTY_SOURCE;
+use limits::numbers::HOST_ONLY;
+use limits::numbers::LIVE_TARGET;
+use limits::numbers::NO_OPERATION;
+use limits::numbers::NO_PARTY;
+use limits::numbers::OUT_OF_RANGE;
+use limits::operations;
+use limits::words;
 use requests::Frame;
-use requests::operations;
 ghost use mathlib.Core.Path.{_≡_};
 ghost use mathlib.Core.Bool.{cond};
 ghost use Rattle.meaning.specs.Limits.{lastSlot, lastWalk};
@@ -9,34 +22,6 @@ ghost use Rattle.meaning.specs.Operations.{opOf};
 ghost use Rattle.meaning.specs.Checks.{entryChecks, firstOf};
 ghost use Rattle.requests.specs.Requests.{frameOf};
 ghost use Rattle.refusals.specs.Flags.{standing, flagsOf};
-
-const LAST_PARTY: u8 = 7;
-
-const LAST_OWNER: u32 = LAST_PARTY as u32;
-
-const LAST_SLOT: u8 = 7;
-
-const LAST_WALK: u8 = 1;
-
-const LAST_OPERATION: u8 = 0x10;
-
-const HOST: u8 = 0;
-
-// ---- numbers given back
-
-pub const DONE: u8 = 0;
-
-pub const NO_PARTY: u8 = 1;
-
-pub const NO_OPERATION: u8 = 2;
-
-pub const HOST_ONLY: u8 = 3;
-
-pub const OUT_OF_RANGE: u8 = 4;
-
-pub const EMPTY_SOURCE: u8 = 5;
-
-pub const LIVE_TARGET: u8 = 6;
 
 // ---- what an operation uses
 
@@ -170,8 +155,8 @@ pub fn refusal(
     let host_only = (uses & HOST_ALONE != 0) & (f.party != HOST);
     let out_of_range = (read & (last(walked) < f.slot))
         | ((changed | other) & (last(opened) < f.destination))
-        | (owners & (LAST_OWNER < f.index))
-        | (owners & (LAST_OWNER < f.value));
+        | (owners & (words::LAST_PARTY < f.index))
+        | (owners & (words::LAST_PARTY < f.value));
     let empty_source = (read & !stands(walked, walk_open, source_live)) | (other & !target_live);
     let live_target = changed & stands(opened, opened_open, target_live);
     let rest = first(live_target, LIVE_TARGET, DONE);

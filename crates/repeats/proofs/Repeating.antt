@@ -11,7 +11,7 @@ use lib.Dec.{eqb}
 use lib.ListN.{length, getD, set}
 use lib.Seq.{getD-set-other}
 use borrow.Author.Tests.{eqb-false}
-use Rattle.meaning.specs.Limits.{answerSize, walkNumbers}
+use Rattle.meaning.specs.Limits.{walkNumbers}
 use Rattle.meaning.specs.Counting.{bit}
 use Rattle.meaning.specs.Lent.{WalkSlices}
 use Rattle.meaning.specs.Trees.{heightOf}
@@ -22,10 +22,10 @@ use Rattle.lookup.specs.Lookup.{elementIn}
 use Rattle.lookup.specs.declared.Got.{Got}
 use Rattle.walk.specs.Walk as walk
 use Rattle.walk.specs.Walk.{numberAt, isEnded, Walkable, takenBy}
-use Rattle.requests.specs.Requests.{put}
+use Rattle.requests.specs.Requests.{put, frameIn, answerPlace}
 use Rattle.edits.specs.Edits.{valued}
 use Rattle.calls.specs.Walks.{answerOf}
-use Rattle.repeats.specs.InARow.{frameIn, InARow, Stops, afterGets, walked, afterSteps, Walked}
+use Rattle.repeats.specs.InARow.{InARow, Stops, afterGets, walked, afterSteps, Walked}
 
 -- ---- the row
 
@@ -63,7 +63,7 @@ module _ (cells : List ℕ) (v : Version) (requests room : List ℕ) (k : ℕ) w
   gets-begin = let none : k - k ≡ 0 = omega arith in rw none
 
   pub gets-go-on : (j x : ℕ) (f : Frame) (now after : List ℕ) → k ≤ j → now ≡ afterGets cells v requests room k (j - k) → f ≡ frameIn requests j
-      → x ≡ elementIn cells (v .bits) (heightOf (recordOf v)) (v .root) (f .index) → after ≡ put now (answerSize * j) (encode (valued x))
+      → x ≡ elementIn cells (v .bits) (heightOf (recordOf v)) (v .root) (f .index) → after ≡ put now (answerPlace j) (encode (valued x))
       → after ≡ afterGets cells v requests room k (j + 1 - k)
   unfolding afterGets
   gets-go-on j x f now after l h e q p =
@@ -81,7 +81,7 @@ module _ (cells used : List ℕ) (back : Bool) (n : ℕ) (w : Walked) (k : ℕ) 
   steps-begin = let none : k - k ≡ 0 = omega arith in rw none
 
   pub steps-go-on : (j : ℕ) (ws after : WalkSlices) (room roomAfter : List ℕ) (g : Got) (a : Answer) → k ≤ j → walked ws room ≡ afterSteps cells used back n w k (j - k)
-      → walk.stepped after g ≡ takenBy cells used back ws n → a ≡ answerOf g → roomAfter ≡ put room (answerSize * j) (encode a)
+      → walk.stepped after g ≡ takenBy cells used back ws n → a ≡ answerOf g → roomAfter ≡ put room (answerPlace j) (encode a)
       → walked after roomAfter ≡ afterSteps cells used back n w k (j + 1 - k)
   unfolding afterSteps
   steps-go-on j ws after room roomAfter g a l h t e p =

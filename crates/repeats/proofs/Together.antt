@@ -6,17 +6,17 @@ use Prim.Native.Nat.{ℕ, zero, suc, _+_, _-_, _*_, _≤_, _<_}
 use native.Mathlib.Decide.{decLt}
 use native.Mathlib.Omega.{arith}
 use lib.ListN.{getD}
-use Rattle.meaning.specs.Limits.{nodeCells, answerSize}
+use Rattle.meaning.specs.Limits.{nodeCells}
 use Rattle.meaning.specs.Lent.{WalkSlices}
 use Rattle.meaning.specs.Frames.{Frame, encode}
 use Rattle.index.specs.Index.{along, Within}
 use Rattle.index.proofs.IndexLaws.{less-within}
 use Rattle.walk.specs.declared.Stretch.{Stretch}
 use Rattle.walk.specs.Walk.{Walkable, passedOn, Passable, Staying}
-use Rattle.requests.specs.Requests.{put}
+use Rattle.requests.specs.Requests.{put, frameIn, answerPlace}
 use Rattle.edits.specs.Edits.{valued}
 use Rattle.calls.specs.Walks.{answerOf}
-use Rattle.repeats.specs.InARow.{frameIn, InARow, walked, afterSteps, Walked, Steps, afterCells, StepsInLeaf}
+use Rattle.repeats.specs.InARow.{InARow, walked, afterSteps, Walked, Steps, afterCells, StepsInLeaf}
 use Rattle.repeats.proofs.Repeating.{walkable-on}
 
 -- ---- answers by cells
@@ -27,7 +27,7 @@ module _ (cells : List ℕ) (back : Bool) (s : Stretch) (room : List ℕ) (k : �
   cells-begin = let none : k - k ≡ 0 = omega arith in rw none
 
   pub cells-go-on : (j i x : ℕ) (now after : List ℕ) → k ≤ j → now ≡ afterCells cells back s room k (j - k) → i ≡ along back (s .place) (j - k)
-      → x ≡ getD cells (nodeCells * s .node + i) 0 → after ≡ put now (answerSize * j) (encode (valued x)) → after ≡ afterCells cells back s room k (j + 1 - k)
+      → x ≡ getD cells (nodeCells * s .node + i) 0 → after ≡ put now (answerPlace j) (encode (valued x)) → after ≡ afterCells cells back s room k (j + 1 - k)
   unfolding afterCells
   cells-go-on j i x now after l h e q p =
       let more : j + 1 - k ≡ suc (j - k) = omega arith in

@@ -4,31 +4,26 @@ use mathlib.Core.Bool.{Bool, true, false, _&&_}
 use mathlib.Core.List.{List}
 use Prim.Native.Nat.{ℕ, zero, suc, _+_, _-_, _*_, _≤_, _<_}
 use lib.Dec.{ltb, eqb}
-use lib.ListN.{length, getD, take, drop}
-use Rattle.meaning.specs.Limits.{nodeCells, frameSize, answerSize}
+use lib.ListN.{length, getD}
+use Rattle.meaning.specs.Limits.{nodeCells, GET}
 use Rattle.meaning.specs.Lent.{WalkSlices}
 use Rattle.meaning.specs.Trees.{heightOf}
-use Rattle.meaning.specs.Frames.{Frame, decode, encode}
+use Rattle.meaning.specs.Frames.{Frame, encode}
 use Rattle.records.specs.Records.{recordOf}
 use Rattle.records.specs.declared.Version.{Version}
 use Rattle.lookup.specs.Lookup.{elementIn}
 use Rattle.index.specs.Index.{along}
 use Rattle.walk.specs.Walk.{takenBy}
 use Rattle.walk.specs.declared.Stretch.{Stretch}
-use Rattle.requests.specs.Requests.{put}
-use Rattle.requests.specs.Numbers.{GET}
+use Rattle.requests.specs.Requests.{put, framePlace, answerPlace, frameIn}
 use Rattle.edits.specs.Edits.{valued}
 use Rattle.calls.specs.Walks.{answerOf}
-
--- frame k of the request bytes
-abbrev pub frameIn : (requests : List ℕ) → (k : ℕ) → Frame
-frameIn requests k = decode (take frameSize (drop (frameSize * k) requests))
 
 -- frames and answers up to a count have their room
 pub record Roomy (requests room : List ℕ) (k count : ℕ) : Type 0 where
   pub far : k ≤ count
-  pub asked : frameSize * count ≤ length requests
-  pub fits : answerSize * count ≤ length room
+  pub asked : framePlace count ≤ length requests
+  pub fits : answerPlace count ≤ length room
 
 -- all the frames from the kth up to the endth are of that kind
 pub record InARow (kind : Frame → Bool) (requests : List ℕ) (k count end : ℕ) : Type 0 where
@@ -51,7 +46,7 @@ unfoldable pub afterGets : (cells : List ℕ) → Version → (requests room : L
 afterGets cells v requests room k zero = room
 afterGets cells v requests room k (suc m) =
     let x = elementIn cells (v .bits) (heightOf (recordOf v)) (v .root) (frameIn requests (k + m) .index) in
-    put (afterGets cells v requests room k m) (answerSize * (k + m)) (encode (valued x))
+    put (afterGets cells v requests room k m) (answerPlace (k + m)) (encode (valued x))
 
 pub record Gets (cells : List ℕ) (party slot : ℕ) (v : Version) (requests room roomAfter : List ℕ) (k count end : ℕ) : Type 0 where
   pub row : InARow (isGet party slot (v .length)) requests k count end
@@ -77,7 +72,7 @@ afterSteps cells used back n w k zero = w
 afterSteps cells used back n w k (suc m) =
     let before = afterSteps cells used back n w k m in
     let t = takenBy cells used back (before .walks) n in
-    walked (t .slices) (put (before .room) (answerSize * (k + m)) (encode (answerOf (t .answer))))
+    walked (t .slices) (put (before .room) (answerPlace (k + m)) (encode (answerOf (t .answer))))
 
 pub record Steps (cells used : List ℕ) (party operation walk : ℕ) (back : Bool) (n : ℕ) (w after : Walked) (requests : List ℕ) (k count end : ℕ) : Type 0 where
   pub row : InARow (isStep party operation walk) requests k count end
@@ -88,7 +83,7 @@ unfoldable pub afterCells : (cells : List ℕ) → (back : Bool) → Stretch →
 afterCells cells back s room k zero = room
 afterCells cells back s room k (suc m) =
     let x = getD cells (nodeCells * s .node + along back (s .place) m) 0 in
-    put (afterCells cells back s room k m) (answerSize * (k + m)) (encode (valued x))
+    put (afterCells cells back s room k m) (answerPlace (k + m)) (encode (valued x))
 
 pub record StepsInLeaf (cells : List ℕ) (party operation walk : ℕ) (back : Bool) (s : Stretch) (requests room roomAfter : List ℕ) (k count end : ℕ) : Type 0 where
   pub row : InARow (isStep party operation walk) requests k count end

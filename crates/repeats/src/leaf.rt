@@ -1,9 +1,10 @@
 // Steps of a walk that stay in one leaf: answered by its cells in a row, with the walk moved once.
-use level::PLACES;
+use limits::ALL_NUMBERS;
+use limits::PLACES;
+use limits::numbers::DONE;
 use records::NodeNo;
 use requests::Answer;
 use requests::Frame;
-use walk::ROOM;
 use walk::Stretch;
 ghost use mathlib.Core.Path.{_≡_};
 ghost use mathlib.Core.Bool.{Bool};
@@ -12,12 +13,6 @@ ghost use Rattle.index.specs.Index.{Within};
 ghost use Rattle.walk.specs.Walk.{slices, Walkable};
 ghost use Rattle.requests.specs.Requests.{frameOf};
 ghost use Rattle.repeats.specs.InARow.{Roomy, isStep, walked, Steps, StepsInLeaf};
-
-const FRAME_SIZE: usize = 12;
-
-const ANSWER_SIZE: usize = 6;
-
-const DONE: u8 = 0;
 
 // From these bits on a leaf holds enough that to look for a stretch pays.
 const WORTH: u32 = 3;
@@ -60,7 +55,7 @@ fn answer_cells(
     let end = end_of(k, count, s.most);
     let mut j = k;
     while j < end {
-        let f = requests::frame_at(requests, FRAME_SIZE * j);
+        let f = requests::frame_at(requests, j);
         if !is_step(f, party, operation, walk) {
             return j;
         }
@@ -71,7 +66,7 @@ fn answer_cells(
             fresh: 0,
             value: x,
         };
-        requests::put_answer(room, ANSWER_SIZE * j, answer);
+        requests::put_answer(room, j, answer);
         j += 1;
     }
     j
@@ -81,7 +76,7 @@ fn answer_cells(
 pub fn steps_in_leaf(
     cells: &[u32],
     used: &[u8],
-    numbers: &mut [u32; ROOM],
+    numbers: &mut [u32; ALL_NUMBERS],
     nodes: &[u32; PLACES],
     indices: &mut [i32; PLACES],
     party: u8,

@@ -1,36 +1,29 @@
 // Frames of one kind in a row, answered by loops that look nothing up again: gets from one slot, and steps of one walk.
 mod leaf;
 
-use level::PLACES;
+use limits::ALL_NUMBERS;
+use limits::PLACES;
+use limits::numbers::DONE;
+use limits::numbers::NOTHING_THERE;
+use limits::operations;
 use lookup::Got;
 use records::NodeNo;
 use records::Version;
 use requests::Answer;
 use requests::Frame;
-use requests::operations;
 use shape::vector_utils;
-use walk::ROOM;
 ghost use mathlib.Core.Path.{_≡_};
 ghost use mathlib.Core.Bool.{Bool};
 ghost use Prim.Native.Nat.{_+_, _*_, _/_, _^_, _<_};
-ghost use Rattle.meaning.specs.Limits.{wordWidth};
+ghost use Rattle.meaning.specs.Limits.{wordWidth, NEXT-BACK};
 ghost use Rattle.meaning.specs.WellFormed.{LegalBits};
 ghost use Rattle.shape.specs.Legal.{Legal};
 ghost use Rattle.lookup.specs.Lookup.{leafIn};
 ghost use Rattle.walk.specs.Walk.{slices, Walkable};
 ghost use lib.Dec.{eqb};
 ghost use Rattle.requests.specs.Requests.{frameOf, answerOf};
-ghost use Rattle.requests.specs.Numbers.{NEXT-BACK};
 ghost use Rattle.calls.specs.Walks as calls;
 ghost use Rattle.repeats.specs.InARow.{Roomy, isGet, Gets, walked, Steps, Stops, isStep};
-
-const FRAME_SIZE: usize = 12;
-
-const ANSWER_SIZE: usize = 6;
-
-const DONE: u8 = 0;
-
-const NOTHING_THERE: u8 = 8;
 
 // ---- gets
 
@@ -83,7 +76,7 @@ pub fn gets(
     let mut leaf = lookup::leaf(cells, v.bits, h, root, before);
     let mut j = k;
     while j < count {
-        let f = requests::frame_at(requests, FRAME_SIZE * j);
+        let f = requests::frame_at(requests, j);
         if !is_get(f, party, slot, v.length) {
             return j;
         }
@@ -96,7 +89,7 @@ pub fn gets(
             fresh: 0,
             value: x,
         };
-        requests::put_answer(room, ANSWER_SIZE * j, answer);
+        requests::put_answer(room, j, answer);
         j += 1;
     }
     j
@@ -125,7 +118,7 @@ fn answer_of(g: Got) -> Answer
 pub fn steps(
     cells: &[u32],
     used: &[u8],
-    numbers: &mut [u32; ROOM],
+    numbers: &mut [u32; ALL_NUMBERS],
     nodes: &mut [u32; PLACES],
     indices: &mut [i32; PLACES],
     party: u8,
@@ -148,13 +141,13 @@ pub fn steps(
     let back = operation == operations::NEXT_BACK;
     let mut j = k;
     while j < count {
-        let f = requests::frame_at(requests, FRAME_SIZE * j);
+        let f = requests::frame_at(requests, j);
         if !leaf::is_step(f, party, operation, walk) {
             return j;
         }
         let g = walk::take(cells, used, numbers, nodes, indices, n, back);
         let answer = answer_of(g);
-        requests::put_answer(room, ANSWER_SIZE * j, answer);
+        requests::put_answer(room, j, answer);
         j = leaf::steps_in_leaf(
             cells,
             used,

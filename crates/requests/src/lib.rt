@@ -1,12 +1,12 @@
 // A frame and its answer, by value and as bytes.
-pub mod operations;
-
+use limits::ANSWER_SIZE;
+use limits::FRAME_SIZE;
 ghost use mathlib.Core.Path.{_≡_};
-ghost use Prim.Native.Nat.{_+_, _≤_, _<_};
+ghost use Prim.Native.Nat.{_+_, _^_, _≤_, _<_};
 ghost use lib.ListN.{length, take, drop};
 ghost use Rattle.meaning.specs.Limits.{frameSize, answerSize};
-ghost use Rattle.meaning.specs.Frames.{fromBytes, decode, encode};
-ghost use Rattle.requests.specs.Requests.{frameOf, answerOf, put};
+ghost use Rattle.meaning.specs.Frames.{fromBytes, encode};
+ghost use Rattle.requests.specs.Requests.{frameOf, answerOf, framePlace, answerPlace, frameIn, put};
 
 // A request of one call. What its fields name is for the operation to say.
 pub struct Frame {
@@ -42,11 +42,28 @@ pub fn number_at(requests: &[u8], at: usize) -> u32
     a * 16777216 + b * 65536 + c * 256 + d
 }
 
-// The frame whose 12 bytes stand at a place.
-pub fn frame_at(requests: &[u8], at: usize) -> Frame
-    requires { ⌜ at + frameSize ≤ length (now requests) ⌝ }
-    ensures { λ r. ⌜ frameOf r ≡ decode (take frameSize (drop at (now (requests .entry)))) ⌝ }
+// Where the kth frame begins among the requests.
+pub fn frame_place(k: usize) -> usize
+    requires { ⌜ framePlace k < 2 ^ 64 ⌝ }
+    ensures { λ r. ⌜ r ≡ framePlace k ⌝ }
 {
+    FRAME_SIZE * k
+}
+
+// Where the kth answer begins in the room.
+pub fn answer_place(k: usize) -> usize
+    requires { ⌜ answerPlace k < 2 ^ 64 ⌝ }
+    ensures { λ r. ⌜ r ≡ answerPlace k ⌝ }
+{
+    ANSWER_SIZE * k
+}
+
+// The kth frame of the requests.
+pub fn frame_at(requests: &[u8], k: usize) -> Frame
+    requires { ⌜ framePlace k + frameSize ≤ length (now requests) ⌝ }
+    ensures { λ r. ⌜ frameOf r ≡ frameIn (now (requests .entry)) k ⌝ }
+{
+    let at = frame_place(k);
     let index = number_at(requests, at + 4);
     let value = number_at(requests, at + 8);
     Frame {
@@ -59,11 +76,12 @@ pub fn frame_at(requests: &[u8], at: usize) -> Frame
     }
 }
 
-// An answer written to its 6 bytes at a place; all else stays.
-pub fn put_answer(room: &mut [u8], at: usize, a: Answer)
-    requires { ⌜ at + answerSize ≤ length (now room) ⌝ }
-    ensures { λ _. ⌜ now (room .exit) ≡ put (now (room .entry)) at (encode (answerOf a)) ⌝ }
+// The kth answer written to its 6 bytes; all else stays.
+pub fn put_answer(room: &mut [u8], k: usize, a: Answer)
+    requires { ⌜ answerPlace k + answerSize ≤ length (now room) ⌝ }
+    ensures { λ _. ⌜ now (room .exit) ≡ put (now (room .entry)) (answerPlace k) (encode (answerOf a)) ⌝ }
 {
+    let at = answer_place(k);
     let value = a.value;
     // With nothing stored before them, the 4 bytes become one store.
     room[at + 2] = ((value >> 24) % 256) as u8;

@@ -8,13 +8,12 @@ use lib.Seq.{take-at, drop-at, drop-drop}
 use Rattle.meaning.specs.Limits.{frameSize, answerSize}
 use Rattle.meaning.specs.Frames.{Frame, encode}
 use Rattle.meaning.specs.Batch.{answerBytes}
-use Rattle.requests.specs.Requests.{put}
+use Rattle.requests.specs.Requests.{put, frameIn}
 use Rattle.requests.proofs.Bytes.{encode-length}
 use Rattle.frames.specs.Run.{Run}
 use Rattle.frames.specs.Serve.{serve}
 use Rattle.serving.specs.Served.{serveAll}
 use Rattle.serving.specs.Lending.{framesIn}
-use Rattle.repeats.specs.InARow.{frameIn}
 use Rattle.runs.specs.Runs.{progress, step, runFrom}
 
 -- bytes put right behind what is done

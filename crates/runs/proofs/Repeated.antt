@@ -8,7 +8,7 @@ use native.Mathlib.Omega.{arith}
 use lib.Dec.{ltb, eqb}
 use lib.ListN.{length, getD}
 use borrow.Author.Tests.{eqb-true, ltb-true}
-use Rattle.meaning.specs.Limits.{parties, partySlots, partyWalks}
+use Rattle.meaning.specs.Limits.{parties, partySlots, partyWalks, GET, NEXT, NEXT-BACK}
 use Rattle.meaning.specs.Lent.{VersionRecord, emptyRecord, WalkSlices, walkRecord}
 use Rattle.meaning.specs.Frames.{Frame}
 use Rattle.meaning.specs.Operations.{unknown, operations, opOf, anyone, uses, ownerOr, giver}
@@ -18,7 +18,6 @@ use Rattle.records.specs.declared.Version.{Version}
 use Rattle.shape.specs.Legal.{Legal}
 use Rattle.store.specs.Store.{Store, nodeCount}
 use Rattle.walk.specs.Walk.{numberAt, Walkable}
-use Rattle.requests.specs.Numbers.{GET, NEXT, NEXT-BACK}
 use Rattle.frames.specs.Run.{Run, slotPlace, walkPlace, versionIn}
 use Rattle.turns.specs.Turns.{placeOf, isOpenAt}
 use Rattle.repeats.specs.InARow.{Roomy, afterGets, Gets, Walked, walked, afterSteps, Steps}

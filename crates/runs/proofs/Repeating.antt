@@ -10,7 +10,7 @@ use lib.Dec.{ltb, leb, eqb}
 use lib.ListN.{length, getD, set}
 use lib.Seq.{getD-set-other}
 use borrow.Author.Tests.{lt-ltb, le-ltb, eq-eqb, eqb-true, ltb-true}
-use Rattle.meaning.specs.Limits.{parties, partySlots, partyWalks, lastParty, lastSlot, lastWalk, walkNumbers, answerSize, DONE}
+use Rattle.meaning.specs.Limits.{lastParty, lastSlot, lastWalk, parties, partySlots, partyWalks, walkNumbers, GET, NEXT, NEXT-BACK, DONE}
 use Rattle.meaning.specs.Counting.{bit}
 use Rattle.meaning.specs.Lent.{VersionRecord, emptyRecord, WalkSlices, WalkRecord, walkRecord}
 use Rattle.meaning.specs.Trees.{heightOf}
@@ -26,14 +26,13 @@ use Rattle.store.specs.Store.{Store}
 use Rattle.levels.specs.Levels.{Taken}
 use Rattle.walk.specs.Walk as walk
 use Rattle.walk.specs.Walk.{numberAt, isEnded, takenOf, takenBy}
-use Rattle.requests.specs.Requests.{put}
-use Rattle.requests.specs.Numbers.{GET, NEXT, NEXT-BACK}
+use Rattle.requests.specs.Requests.{put, frameIn, answerPlace}
 use Rattle.frames.specs.Run.{Run, walkPlace, versionIn, walkIn, sourceIn, walkedIn, seenIn, supplyIn}
 use Rattle.frames.specs.Serve.{done, verdict, respond, serve}
 use Rattle.edits.specs.Edits.{valued}
 use Rattle.calls.specs.Walks.{answerOf}
 use Rattle.turns.specs.Turns.{placeOf, isOpenAt}
-use Rattle.repeats.specs.InARow.{frameIn, Roomy, isGet, afterGets, Gets, isStep, Walked, walked, afterSteps, Steps}
+use Rattle.repeats.specs.InARow.{Roomy, isGet, afterGets, Gets, isStep, Walked, walked, afterSteps, Steps}
 use Rattle.serving.specs.States.{Runs}
 use Rattle.serving.proofs.Passing.{entry-passes}
 use Rattle.serving.proofs.Seeing.{walk-here}
@@ -177,7 +176,7 @@ module _ (requests : List ℕ) where
     item i = elementIn (r .store .nodes .cells) (v .bits) (heightOf (recordOf v)) (v .root) i
 
     get-steps : (k : ℕ) (room : List ℕ) → isGet p n (v .length) (frameIn requests k) ≡ true
-        → step requests (progress r room) k ≡ progress r (put room (answerSize * k) (encode (valued (item (frameIn requests k .index)))))
+        → step requests (progress r room) k ≡ progress r (put room (answerPlace k) (encode (valued (item (frameIn requests k .index)))))
     unfolding step
     get-steps k room t =
         let f : Frame = frameIn requests k in
@@ -188,7 +187,7 @@ module _ (requests : List ℕ) where
         ap (serve r) (framed f p GET n (told .0) (told .1) (told .2))
         ∙ (get-serves r p n (f .destination) (f .index) (f .value) lp ln alive within
         ∙ ap (λ (w : VersionRecord). (r, valued (elementIn (r .store .nodes .cells) (w .bits) (heightOf w) (w .root) (f .index)))) here) in
-        ap (λ (y : Run × Answer). progress (y .0) (put room (answerSize * k) (encode (y .1)))) found
+        ap (λ (y : Run × Answer). progress (y .0) (put room (answerPlace k) (encode (y .1)))) found
 
     pub gets-run : (m k : ℕ) (room : List ℕ) → ((i : ℕ) → k ≤ i → i < k + m → isGet p n (v .length) (frameIn requests i) ≡ true)
         → runFrom requests m (progress r room) k ≡ progress r (afterGets (r .store .nodes .cells) v requests room k m)
@@ -203,12 +202,12 @@ module _ (requests : List ℕ) where
   module _ (s : Store) (vs : List VersionRecord) (p o n : ℕ) (back : Bool) (lp : p < parties) (ln : n < partyWalks) (way : Way o back) where
     step-steps : (ws : WalkSlices) (room : List ℕ) (k : ℕ) → numberAt (ws .numbers) (walkPlace p n) 0 ≡ 1 → isStep p o n (frameIn requests k) ≡ true
         → let t = takenBy (s .nodes .cells) (s .nodes .used) back ws (walkPlace p n) in
-        step requests (progress (runOf s vs ws) room) k ≡ progress (runOf s vs (t .slices)) (put room (answerSize * k) (encode (answerOf (t .answer))))
+        step requests (progress (runOf s vs ws) room) k ≡ progress (runOf s vs (t .slices)) (put room (answerPlace k) (encode (answerOf (t .answer))))
     unfolding step
     step-steps ws room k alive t =
         let f : Frame = frameIn requests k in
         let told = step-told p o n f t in
-        ap (λ (y : Run × Answer). progress (y .0) (put room (answerSize * k) (encode (y .1))))
+        ap (λ (y : Run × Answer). progress (y .0) (put room (answerPlace k) (encode (y .1))))
         (ap (serve (runOf s vs ws)) (framed f p o n (told .0) (told .1) (told .2))
         ∙ step-serves (runOf s vs ws) p n (f .destination) (f .index) (f .value) lp ln (open-in (runOf s vs ws) p n lp ln alive) o back way)
 

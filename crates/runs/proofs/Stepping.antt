@@ -8,29 +8,27 @@ use native.Mathlib.Omega.{arith}
 use lib.Dec.{ltb, eqb}
 use lib.ListN.{length, getD, set, List·getD-map}
 use borrow.Author.Tests.{lt-ltb, le-ltb}
-use Rattle.meaning.specs.Limits.{parties, partySlots, answerSize}
+use Rattle.meaning.specs.Limits.{parties, partySlots, versionCount, RELEASE}
 use Rattle.meaning.specs.Lent.{VersionRecord, emptyRecord, WalkSlices}
 use Rattle.meaning.specs.Frames.{Frame, Answer, encode}
 use Rattle.meaning.specs.Operations.{giver, taker}
 use Rattle.records.specs.Records.{recordOf, recordsOf}
 use Rattle.records.specs.declared.Version.{Version}
 use Rattle.store.specs.Store.{Store, nodeCount}
-use Rattle.requests.specs.Requests.{put}
-use Rattle.requests.specs.Numbers.{RELEASE}
+use Rattle.requests.specs.Requests.{put, frameIn, answerPlace}
 use Rattle.frames.specs.Run.{Run, versionIn, sourceIn, targetIn}
 use Rattle.frames.specs.Serve.{serve}
 use Rattle.served.specs.Acted.{actedOf}
 use Rattle.served.specs.declared.Served.{Served}
 use Rattle.calls.specs.Walks.{WalkActed}
 use Rattle.calls.specs.Calls.{withWalks}
-use Rattle.turns.specs.Turns.{slots, placeOf, changedIn, Turnable, turn}
+use Rattle.turns.specs.Turns.{placeOf, changedIn, Turnable, turn}
 use Rattle.serving.specs.States.{Runs}
 use Rattle.serving.proofs.Serving.{frame-serves}
 use Rattle.answering.specs.Turned.{oldIn, turned}
 use Rattle.answering.proofs.Ready.{turn-able}
 use Rattle.answering.proofs.Calling.{place-here}
 use Rattle.answering.proofs.Answering.{turn-serves}
-use Rattle.repeats.specs.InARow.{frameIn}
 use Rattle.runs.specs.Runs.{Placed, sourceFrom, targetFrom, runOf, Progress, progress, step, runFrom, Going}
 
 -- ---- the table
@@ -56,7 +54,7 @@ either-below true m n k l h = l
 either-below false m n k l h = h
 
 pub placed : (f : Frame) (g t source target changed : ℕ) → g ≡ giver f → t ≡ taker f → source ≡ placeOf g (f .slot) → target ≡ placeOf t (f .destination)
-    → changed ≡ changedIn f source target → source < slots → target < slots → Placed f source target changed
+    → changed ≡ changedIn f source target → source < versionCount → target < versionCount → Placed f source target changed
 placed f g t source target changed eg et es ed ec ls lt =
     let sourceIs : source ≡ placeOf (giver f) (f .slot) = es ∙ ap (λ (p : ℕ). placeOf p (f .slot)) eg in
     let targetIs : target ≡ placeOf (taker f) (f .destination) = ed ∙ ap (λ (p : ℕ). placeOf p (f .destination)) et in
@@ -66,7 +64,7 @@ placed f g t source target changed eg et es ed ec ls lt =
       changedIs = ec ∙ (ap (λ (n : ℕ). changedIn f n target) sourceIs ∙ ap (λ (n : ℕ). changedIn f (placeOf (giver f) (f .slot)) n) targetIs);
       sourceBelow = ls;
       targetBelow = lt;
-      changedBelow = rw ec (either-below (eqb (f .operation) RELEASE) source target slots ls lt);
+      changedBelow = rw ec (either-below (eqb (f .operation) RELEASE) source target versionCount ls lt);
     }
 
 -- what is read at the place of a slot is the model's
@@ -124,13 +122,13 @@ module _ (s : Store) (table : List Version) (ws : WalkSlices) (f : Frame) (sourc
         let same : withWalks (actedOf after r) walksAfter ≡ turn s ws f (sourceIn now f) (targetIn now f) (oldIn now f) = acts ∙ rw (source-read, target-read, old-read) in
         turn-serves now f k ∙ (ap (turned now f) (sym same) ∙ rw (records-set table changed (r .version), at .changedIs))
 
-    pub turn-steps : (requests room roomAfter : List ℕ) (k : ℕ) → Runs now → f ≡ frameIn requests k → roomAfter ≡ put room (answerSize * k) (encode answer)
+    pub turn-steps : (requests room roomAfter : List ℕ) (k : ℕ) → Runs now → f ≡ frameIn requests k → roomAfter ≡ put room (answerPlace k) (encode answer)
         → progress (runOf after (recordsOf (set table changed (r .version))) walksAfter) roomAfter ≡ step requests (progress now room) k
     unfolding step
     turn-steps requests room roomAfter k runs e h =
         ap (progress (runOf after (recordsOf (set table changed (r .version))) walksAfter)) h
-        ∙ (ap (λ (x : Run × Answer). progress (x .0) (put room (answerSize * k) (encode (x .1)))) (sym (serves runs))
-        ∙ ap (λ (g : Frame). progress (serve now g .0) (put room (answerSize * k) (encode (serve now g .1)))) e)
+        ∙ (ap (λ (x : Run × Answer). progress (x .0) (put room (answerPlace k) (encode (x .1)))) (sym (serves runs))
+        ∙ ap (λ (g : Frame). progress (serve now g .0) (put room (answerPlace k) (encode (serve now g .1)))) e)
 
 -- ---- the loop
 

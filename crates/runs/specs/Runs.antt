@@ -6,19 +6,18 @@ use mathlib.Core.List.{List}
 use Prim.Native.Nat.{ℕ, zero, suc, _+_, _-_, _*_, _≤_, _<_}
 use lib.Dec.{ltb}
 use lib.ListN.{length, getD}
-use Rattle.meaning.specs.Limits.{parties, partySlots, frameSize, answerSize}
+use Rattle.meaning.specs.Limits.{parties, partySlots, versionCount, GET, NEXT, NEXT-BACK}
 use Rattle.meaning.specs.Lent.{VersionRecord, emptyRecord, WalkSlices}
 use Rattle.meaning.specs.Frames.{Frame, encode}
 use Rattle.meaning.specs.Operations.{giver, taker}
 use Rattle.shape.specs.Legal.{Legal}
 use Rattle.store.specs.Store.{Store, nodeCount}
 use Rattle.walk.specs.Walk.{Walkable}
-use Rattle.requests.specs.Requests.{put}
-use Rattle.requests.specs.Numbers.{GET, NEXT, NEXT-BACK}
+use Rattle.requests.specs.Requests.{put, frameIn, answerPlace, framePlace}
 use Rattle.frames.specs.Run.{Run, walkPlace}
 use Rattle.frames.specs.Serve as frames
-use Rattle.turns.specs.Turns.{slots, placeOf, isOpenAt}
-use Rattle.repeats.specs.InARow.{frameIn, Roomy}
+use Rattle.turns.specs.Turns.{placeOf, isOpenAt}
+use Rattle.repeats.specs.InARow.{Roomy}
 use Rattle.serving.specs.States.{Runs}
 use Rattle.answering.specs.Turned.{changedPlace}
 
@@ -28,9 +27,9 @@ pub record Placed (f : Frame) (source target changed : ℕ) : Type 0 where
   pub sourceIs : source ≡ placeOf (giver f) (f .slot)
   pub targetIs : target ≡ placeOf (taker f) (f .destination)
   pub changedIs : changed ≡ changedPlace f
-  pub sourceBelow : source < slots
-  pub targetBelow : target < slots
-  pub changedBelow : changed < slots
+  pub sourceBelow : source < versionCount
+  pub targetBelow : target < versionCount
+  pub changedBelow : changed < versionCount
 
 -- what stands at the place of a slot that is there; a slot that is not there reads as empty
 abbrev pub sourceFrom : Frame → VersionRecord → VersionRecord
@@ -54,7 +53,7 @@ progress r room = record { run = r; room = room }
 unfoldable pub step : (requests : List ℕ) → Progress → (k : ℕ) → Progress
 step requests p k =
     let x = frames.serve (p .run) (frameIn requests k) in
-    progress (x .0) (put (p .room) (answerSize * k) (encode (x .1)))
+    progress (x .0) (put (p .room) (answerPlace k) (encode (x .1)))
 
 -- so many frames from the kth on
 unfoldable pub runFrom : (requests : List ℕ) → (count : ℕ) → Progress → (k : ℕ) → Progress
@@ -63,8 +62,8 @@ runFrom requests (suc n) p k = runFrom requests n (step requests p k) (k + 1)
 
 pub record CanRun (r : Run) (requests room : List ℕ) (count : ℕ) : Type 0 where
   pub runs : Runs r
-  pub asked : frameSize * count ≤ length requests
-  pub fits : answerSize * count ≤ length room
+  pub asked : framePlace count ≤ length requests
+  pub fits : answerPlace count ≤ length room
 
 -- ---- frames like the one before, in a row
 

@@ -1,12 +1,14 @@
 // Frames in order on a state that runs, each answered at its 6 bytes.
-use level::PLACES;
+use limits::ALL_NUMBERS;
+use limits::PARTY_WALKS;
+use limits::PLACES;
+use limits::VERSIONS;
+use limits::operations;
 use records::Supply;
 use records::Version;
 use requests::Answer;
 use requests::Frame;
-use requests::operations;
 use served::Served;
-use walk::ROOM;
 ghost use mathlib.Core.Path.{_≡_};
 ghost use Rattle.records.specs.Records.{recordOf, recordsOf};
 ghost use Rattle.store.specs.Store.{storeOf};
@@ -17,14 +19,6 @@ ghost use Rattle.calls.specs.Calls.{withWalks};
 ghost use Rattle.frames.specs.Run.{walkPlace};
 ghost use Rattle.turns.specs.Turns.{Turnable, turn};
 ghost use Rattle.runs.specs.Runs.{Placed, sourceFrom, targetFrom, runOf, progress, CanRun, runFrom, Repeatable, Repeats};
-
-const SLOTS: usize = 64;
-
-const PARTY_WALKS: u8 = 2;
-
-const FRAME_SIZE: usize = 12;
-
-const ANSWER_SIZE: usize = 6;
 
 // Where the records of a frame's slots stand, and the one that it may change.
 pub struct Places {
@@ -52,7 +46,7 @@ fn serve(
     counts: &mut [u32],
     cells: &mut [u32],
     order: &mut [u32],
-    numbers: &mut [u32; ROOM],
+    numbers: &mut [u32; ALL_NUMBERS],
     nodes: &mut [u32; PLACES],
     indices: &mut [i32; PLACES],
     supply: Supply,
@@ -102,7 +96,7 @@ fn walk_place(party: u8, walk: u8) -> u32
 fn repeat(
     cells: &[u32],
     used: &[u8],
-    numbers: &mut [u32; ROOM],
+    numbers: &mut [u32; ALL_NUMBERS],
     nodes: &mut [u32; PLACES],
     indices: &mut [i32; PLACES],
     f: Frame,
@@ -147,7 +141,7 @@ fn repeat(
 
 // The version records and the number of free nodes afterwards.
 pub struct Ran {
-    pub versions: [Version; SLOTS],
+    pub versions: [Version; VERSIONS],
     pub free: usize,
 }
 
@@ -157,11 +151,11 @@ pub fn run(
     counts: &mut [u32],
     cells: &mut [u32],
     order: &mut [u32],
-    numbers: &mut [u32; ROOM],
+    numbers: &mut [u32; ALL_NUMBERS],
     nodes: &mut [u32; PLACES],
     indices: &mut [i32; PLACES],
     free: usize,
-    versions: [Version; SLOTS],
+    versions: [Version; VERSIONS],
     requests: &[u8],
     room: &mut [u8],
     count: usize,
@@ -178,7 +172,7 @@ pub fn run(
     let mut left = free;
     let mut k = 0;
     while k < count {
-        let f = requests::frame_at(requests, FRAME_SIZE * k);
+        let f = requests::frame_at(requests, k);
         let at = places_of(f);
         let source = at.source;
         let target = at.target;
@@ -209,7 +203,7 @@ pub fn run(
             fresh: r.fresh,
             value: r.value,
         };
-        requests::put_answer(room, ANSWER_SIZE * k, answer);
+        requests::put_answer(room, k, answer);
         let there = table[source];
         k = repeat(
             cells,

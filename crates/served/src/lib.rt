@@ -1,5 +1,10 @@
 // The answers of the vector's calls as those of frames, with document 01's numbers.
 use compare::Ordering;
+use limits::numbers::BAD_BITS;
+use limits::numbers::DONE;
+use limits::numbers::FULL;
+use limits::numbers::NO_NODES;
+use limits::numbers::NOTHING_THERE;
 use lookup::Got;
 use records::Version;
 use vector::Edit;
@@ -7,14 +12,6 @@ use vector::Edited;
 ghost use mathlib.Core.Path.{_≡_};
 ghost use Prim.Native.Nat.{_%_};
 ghost use Rattle.served.specs.Served.{refusedWith, answeredWith, doneWith, editedWith, gotWith, orderedWith};
-
-const BAD_BITS: u8 = 7;
-
-const NOTHING_THERE: u8 = 8;
-
-const FULL: u8 = 9;
-
-const NO_NODES: u8 = 10;
 
 // What a frame is answered, how many nodes are free then, and what stands in the one version record that it may change.
 pub struct Served {
@@ -41,7 +38,7 @@ pub fn answered(value: u32, free: usize, version: Version) -> Served
     ensures { λ r. ⌜ r ≡ answeredWith value free version ⌝ }
 {
     Served {
-        number: 0,
+        number: DONE,
         fresh: 0,
         value: value,
         free: free,
@@ -61,7 +58,7 @@ fn done(e: Edit) -> Served
 {
     let version = e.version;
     Served {
-        number: 0,
+        number: DONE,
         fresh: low_byte(e.copied),
         value: 0,
         free: e.free,

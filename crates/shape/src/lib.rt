@@ -7,8 +7,6 @@ ghost use Rattle.meaning.specs.Limits.{lengthBits, walkLevels};
 ghost use Rattle.meaning.specs.Shape.{height, rootMaxCapacity, isRootFull};
 ghost use Rattle.shape.specs.Legal.{Legal};
 
-const BITS: u32 = 32;
-
 // The bounds: a walk has room for the height, and a bucket at it shifts by less than the word width.
 pub fn height(bits: u32, length: u32) -> u32
     requires { ⌜ Legal bits length ⌝ }
@@ -17,7 +15,7 @@ pub fn height(bits: u32, length: u32) -> u32
 {
     if length > 1 {
         let u = length - 1;
-        let c = BITS - u32::leading_zeros(u);
+        let c = limits::WORD_WIDTH - u32::leading_zeros(u);
         c / bits + (c % bits > 0) as u32 - 1
     } else {
         0

@@ -1,4 +1,5 @@
 // Module 2: a store of nodes in slices that the caller lends.
+use limits::NODE_CELLS;
 use records::NodeNo;
 ghost use mathlib.Core.Path.{_≡_};
 ghost use Prim.Native.Nat.{_+_, _-_, _≤_, _<_};
@@ -8,13 +9,6 @@ ghost use Rattle.meaning.specs.Limits.{nodeCells, LEAF, BRANCH};
 ghost use Rattle.store.specs.Store.{nodesOf, storeOf, raise, raises};
 ghost use Rattle.store.specs.Ready.{Sized, FreeOnTop, HasPlace, Room, AllBelow};
 ghost use Rattle.store.specs.Answers.{Written, Makes, others};
-
-// The kinds of a node.
-pub const FREE: u8 = 0;
-
-pub const LEAF: u8 = 1;
-
-pub const BRANCH: u8 = 2;
 
 // The node on top of the free order.
 pub fn top(order: &[u32], free: usize) -> NodeNo
@@ -33,7 +27,7 @@ pub fn write_node(
     n: NodeNo,
     kind: u8,
     len: u8,
-    a: [u32; 32],
+    a: [u32; NODE_CELLS],
 )
     requires { ⌜ HasPlace (nodesOf (now kinds) (now used) (now cells)) (now counts) (n .0) ⌝ }
     ensures { λ _. ⌜ Written (nodesOf (now (kinds .entry)) (now (used .entry)) (now (cells .entry))) (now (counts .entry)) (n .0) kind len a
@@ -62,7 +56,7 @@ fn make(
     free: usize,
     kind: u8,
     len: u8,
-    a: [u32; 32],
+    a: [u32; NODE_CELLS],
 ) -> Made
     requires { ⌜ Sized (storeOf (now kinds) (now used) (now counts) (now cells) (now order) free) ⌝ }
     requires { ⌜ FreeOnTop (storeOf (now kinds) (now used) (now counts) (now cells) (now order) free) ⌝ }
@@ -86,14 +80,24 @@ pub fn make_leaf(
     order: &[u32],
     free: usize,
     len: u8,
-    a: [u32; 32],
+    a: [u32; NODE_CELLS],
 ) -> Made
     requires { ⌜ Sized (storeOf (now kinds) (now used) (now counts) (now cells) (now order) free) ⌝ }
     requires { ⌜ FreeOnTop (storeOf (now kinds) (now used) (now counts) (now cells) (now order) free) ⌝ }
     ensures { λ r. ⌜ Makes (storeOf (now (kinds .entry)) (now (used .entry)) (now (counts .entry)) (now (cells .entry)) (now (order .entry)) free) LEAF len a
         (storeOf (now (kinds .exit)) (now (used .exit)) (now (counts .exit)) (now (cells .exit)) (now (order .entry)) (r .free)) (r .node .0) ⌝ }
 {
-    make(kinds, used, counts, cells, order, free, LEAF, len, a)
+    make(
+        kinds,
+        used,
+        counts,
+        cells,
+        order,
+        free,
+        limits::LEAF,
+        len,
+        a,
+    )
 }
 
 // Takes the node on top of the free order, and makes a branch of it. The counts of its children are the caller's to raise.
@@ -105,14 +109,24 @@ pub fn make_branch(
     order: &[u32],
     free: usize,
     len: u8,
-    a: [u32; 32],
+    a: [u32; NODE_CELLS],
 ) -> Made
     requires { ⌜ Sized (storeOf (now kinds) (now used) (now counts) (now cells) (now order) free) ⌝ }
     requires { ⌜ FreeOnTop (storeOf (now kinds) (now used) (now counts) (now cells) (now order) free) ⌝ }
     ensures { λ r. ⌜ Makes (storeOf (now (kinds .entry)) (now (used .entry)) (now (counts .entry)) (now (cells .entry)) (now (order .entry)) free) BRANCH len a
         (storeOf (now (kinds .exit)) (now (used .exit)) (now (counts .exit)) (now (cells .exit)) (now (order .entry)) (r .free)) (r .node .0) ⌝ }
 {
-    make(kinds, used, counts, cells, order, free, BRANCH, len, a)
+    make(
+        kinds,
+        used,
+        counts,
+        cells,
+        order,
+        free,
+        limits::BRANCH,
+        len,
+        a,
+    )
 }
 
 // A node gets one link more.
@@ -126,7 +140,7 @@ pub fn raise(counts: &mut [u32], n: NodeNo)
 }
 
 // The nodes that a holds from `from` up to `to` get one link more each: none where `from` is beyond.
-pub fn raise_range(counts: &mut [u32], a: [u32; 32], from: usize, to: usize)
+pub fn raise_range(counts: &mut [u32], a: [u32; NODE_CELLS], from: usize, to: usize)
     requires { ⌜ to ≤ nodeCells ⌝ }
     requires { ⌜ AllBelow (length (now counts)) (take to a) ⌝ }
     requires { ⌜ Room (to - from) (now counts) ⌝ }
@@ -140,7 +154,7 @@ pub fn raise_range(counts: &mut [u32], a: [u32; 32], from: usize, to: usize)
 }
 
 // The first `len` nodes of a get one link more each, but the one at `but`, which may be the next.
-pub fn raise_others(counts: &mut [u32], a: [u32; 32], len: usize, but: usize)
+pub fn raise_others(counts: &mut [u32], a: [u32; NODE_CELLS], len: usize, but: usize)
     requires { ⌜ (but ≤ len) × (len ≤ nodeCells) ⌝ }
     requires { ⌜ AllBelow (length (now counts)) (take len a) ⌝ }
     requires { ⌜ Room nodeCells (now counts) ⌝ }

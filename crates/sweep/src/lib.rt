@@ -1,7 +1,6 @@
 // Module 2: the release of a link. What nothing reaches any longer goes to the free order.
+use limits::NODE_CELLS;
 use records::NodeNo;
-use store::BRANCH;
-use store::FREE;
 ghost use mathlib.Core.Path.{_≡_};
 ghost use Prim.Native.Nat.{_+_, _≤_, _<_};
 ghost use lib.ListN.{length, take};
@@ -37,7 +36,7 @@ pub fn lower_all(
     counts: &mut [u32],
     order: &mut [u32],
     free: usize,
-    a: [u32; 32],
+    a: [u32; NODE_CELLS],
     len: usize,
 ) -> usize
     requires { ⌜ (len ≤ nodeCells) × AllBelow (length (now counts)) (take len a) ⌝ }
@@ -71,9 +70,9 @@ pub fn scan_one(
     let i = n.0 as usize;
     let kind = kinds[i];
     let len = used[i];
-    kinds[i] = FREE;
+    kinds[i] = limits::FREE;
     used[i] = 0;
-    if kind == BRANCH {
+    if kind == limits::BRANCH {
         let a = cells::cells_of(cells, i);
         return lower_all(counts, order, free, a, len as usize);
     }

@@ -4,7 +4,7 @@ use mathlib.Core.Bool.{Bool, false, cond, _&&_}
 use mathlib.Core.List.{List}
 use Prim.Native.Nat.{ℕ, _+_, _*_, _%_}
 use lib.Dec.{ltb, eqb}
-use Rattle.meaning.specs.Limits.{parties, partySlots, partyWalks, DONE}
+use Rattle.meaning.specs.Limits.{parties, partySlots, partyWalks, RELEASE, DONE}
 use Rattle.meaning.specs.Lent.{VersionRecord, WalkSlices}
 use Rattle.meaning.specs.Frames.{Frame}
 use Rattle.meaning.specs.Operations.{opOf, giver, taker}
@@ -12,14 +12,10 @@ use Rattle.meaning.specs.Checks.{Standing, entryChecks, firstOf}
 use Rattle.meaning.specs.Serve.{refused}
 use Rattle.store.specs.Store.{Store}
 use Rattle.walk.specs.Walk.{numberAt}
-use Rattle.requests.specs.Numbers.{RELEASE}
 use Rattle.frames.specs.Run.{walkPlace}
 use Rattle.refusals.specs.Flags.{standing}
 use Rattle.calls.specs.Walks.{WalkActed, acted}
 use Rattle.calls.specs.Calls.{Serviceable, withWalks, act}
-
-abbrev pub slots : ℕ
-slots = parties * partySlots
 
 -- the place of a party's slot among all; what is not there has some place too
 abbrev pub placeOf : (party slot : ℕ) → ℕ

@@ -1,17 +1,21 @@
 // One frame on the records that it names: the checks, then the call.
-use level::PLACES;
+use limits::ALL_NUMBERS;
+use limits::PARTY_SLOTS;
+use limits::PARTY_WALKS;
+use limits::PLACES;
+use limits::WALK_NUMBERS;
+use limits::numbers::DONE;
+use limits::operations;
+use limits::words::PARTIES;
 use records::Supply;
 use records::Version;
 use requests::Frame;
-use requests::operations;
 use served::Served;
-use walk::NUMBERS;
-use walk::ROOM;
 ghost use mathlib.Core.Path.{_≡_};
 ghost use mathlib.Core.Bool.{Bool, cond, _&&_};
 ghost use Prim.Native.Nat.{_+_, _*_, _%_, _<_};
 ghost use lib.Dec.{ltb};
-ghost use Rattle.meaning.specs.Limits.{parties, partySlots};
+ghost use Rattle.meaning.specs.Limits.{parties, partySlots, versionCount};
 ghost use Rattle.meaning.specs.Lent.{emptyRecord};
 ghost use Rattle.records.specs.Records.{recordOf};
 ghost use Rattle.store.specs.Store.{storeOf};
@@ -19,19 +23,13 @@ ghost use Rattle.walk.specs.Walk.{slices};
 ghost use Rattle.requests.specs.Requests.{frameOf};
 ghost use Rattle.served.specs.Acted.{actedOf};
 ghost use Rattle.calls.specs.Calls.{withWalks};
-ghost use Rattle.turns.specs.Turns.{slots, placeOf, changedIn, isOpenAt, Turnable, turn};
-
-const PARTIES: u32 = 8;
-
-const PARTY_SLOTS: u8 = 8;
-
-const PARTY_WALKS: u8 = 2;
+ghost use Rattle.turns.specs.Turns.{placeOf, changedIn, isOpenAt, Turnable, turn};
 
 // ---- the version records that a frame names
 
 // Where a slot of a party stands among all; a party or slot that is not there has some place too.
 pub fn slot_place(party: u32, slot: u8) -> usize
-    ensures { λ r. ⌜ (r ≡ placeOf party slot) × (r < slots) ⌝ }
+    ensures { λ r. ⌜ (r ≡ placeOf party slot) × (r < versionCount) ⌝ }
 {
     (PARTY_SLOTS as usize) * ((party % PARTIES) as usize) + ((slot % PARTY_SLOTS) as usize)
 }
@@ -65,13 +63,13 @@ pub fn changed_place(f: Frame, source: usize, target: usize) -> usize
 // ---- serving
 
 // A walk that is not there is closed.
-pub fn is_open(numbers: &[u32; ROOM], party: u32, walk: u8) -> bool
+pub fn is_open(numbers: &[u32; ALL_NUMBERS], party: u32, walk: u8) -> bool
     ensures { λ r. ⌜ r ≡ isOpenAt (now (numbers .entry)) party walk ⌝ }
 {
     let there = (party < PARTIES) & (walk < PARTY_WALKS);
     if there {
         let n = (PARTY_WALKS as usize) * (party as usize) + (walk as usize);
-        return numbers[NUMBERS * n] == 1;
+        return numbers[WALK_NUMBERS * n] == 1;
     }
     false
 }
@@ -82,7 +80,7 @@ pub fn serve(
     counts: &mut [u32],
     cells: &mut [u32],
     order: &mut [u32],
-    numbers: &mut [u32; ROOM],
+    numbers: &mut [u32; ALL_NUMBERS],
     nodes: &mut [u32; PLACES],
     indices: &mut [i32; PLACES],
     supply: Supply,
@@ -100,7 +98,7 @@ pub fn serve(
     let used_walk = is_open(numbers, refusals::giver(f), f.slot);
     let opened_walk = is_open(numbers, refusals::taker(f), f.destination);
     let number = refusals::refusal(f, v.live == 1, w.live == 1, used_walk, opened_walk);
-    if number != refusals::DONE {
+    if number != DONE {
         return served::refused(number, supply.free, old);
     }
     calls::act(

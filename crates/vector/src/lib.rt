@@ -16,10 +16,6 @@ ghost use Rattle.paths.specs.Ready.{madeOf};
 ghost use Rattle.vector.specs.Calls.{doneWith, calledOf, newCall, setCall, pushCall, dropCall};
 ghost use Rattle.vector.specs.Ready.{editOf, Linkable, Steady, Editable, SetWay, PushWay, DropWay, CanPush, CanDrop, Fell};
 
-const MAX_BITS: u32 = 5;
-
-const MAX_LENGTH: u32 = 32768;
-
 // A version, how many nodes were copied for it, and how many are left free.
 pub struct Edit {
     pub version: Version,
@@ -60,7 +56,7 @@ pub fn new_with_bits(
     ensures { λ r. ⌜ calledOf (now (kinds .exit)) (now (used .exit)) (now (counts .exit)) (now (cells .exit)) (now (order .entry)) (supply .free) r
         ≡ newCall (storeOf (now (kinds .entry)) (now (used .entry)) (now (counts .entry)) (now (cells .entry)) (now (order .entry)) (supply .free)) bits ⌝ }
 {
-    let legal = (bits >= 1) & (bits <= MAX_BITS);
+    let legal = (bits >= 1) & (bits <= limits::MAX_BITS);
     if !legal {
         return Edited::BadBits;
     }
@@ -186,7 +182,7 @@ pub fn push_back(
     ensures { λ r. ⌜ calledOf (now (kinds .exit)) (now (used .exit)) (now (counts .exit)) (now (cells .exit)) (now (order .entry)) (supply .free) r
         ≡ pushCall (storeOf (now (kinds .entry)) (now (used .entry)) (now (counts .entry)) (now (cells .entry)) (now (order .entry)) (supply .free)) (recordOf v) value ⌝ }
 {
-    if v.length >= MAX_LENGTH {
+    if v.length >= limits::MAX_LENGTH {
         return Edited::Full;
     }
     let length = v.length + 1;

@@ -4,7 +4,7 @@ use mathlib.Core.Bool.{Bool, true, cond, _&&_}
 use mathlib.Core.List.{List}
 use lib.Dec.{eqb}
 use lib.ListN.{length, replicate}
-use Rattle.meaning.specs.Limits.{parties, partySlots}
+use Rattle.meaning.specs.Limits.{versionCount}
 use Rattle.records.specs.declared.Version.{Version}
 
 -- the record that stands for one that is not there
@@ -12,15 +12,15 @@ abbrev pub blank : Version
 blank = record { live = 0; root = 0; bits = 0; length = 0 }
 
 abbrev pub blanks : List Version
-blanks = replicate (parties * partySlots) blank
+blanks = replicate versionCount blank
 
 -- whether a slice of that many records is copied, where it is to be
 abbrev pub copies : (wanted : Bool) → (count : ℕ) → Bool
-copies wanted n = wanted && eqb n (parties * partySlots)
+copies wanted n = wanted && eqb n versionCount
 
 -- how many records are copied then: all or none
 abbrev pub copied : (wanted : Bool) → (count : ℕ) → ℕ
-copied wanted n = cond (copies wanted n) (parties * partySlots) 0
+copied wanted n = cond (copies wanted n) versionCount 0
 
 -- the table of a slice: of one that has another length, 64 blank records
 abbrev pub tableOf : List Version → List Version

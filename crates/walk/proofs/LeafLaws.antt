@@ -13,12 +13,12 @@ use lib.IntN.{ℤ}
 use borrow.Author.Tests.{ne-eqb}
 use mir.Syntax.{w32}
 use mir.Val.{Fits}
-use Rattle.meaning.specs.Limits.{nodeCells, walkLevels, walkNumbers}
+use Rattle.meaning.specs.Limits.{nodeCells, walkLevels, walkNumbers, places}
 use Rattle.meaning.specs.Counting.{bit}
 use Rattle.lookup.specs.declared.Got.the-variants.{Element}
 use Rattle.index.specs.Index.{along, Within}
 use Rattle.index.proofs.IndexLaws.{less-within}
-use Rattle.level.specs.Level.{places, levels, placeAt, StaysAt, passedAt}
+use Rattle.level.specs.Level.{levels, placeAt, StaysAt, passedAt}
 use Rattle.level.proofs.Passing.{set-set, none-passed, not-ended, one-more, passes-cell}
 use Rattle.levels.specs.Levels.{Out, took, oneTaken}
 use Rattle.levels.proofs.StackLaws.{goes-on, stands, takes}

@@ -6,7 +6,7 @@ use Prim.Native.Nat.{ℕ, zero, suc, _+_, _*_, _^_, _<_, _≤_}
 use lib.Dec.{eqb}
 use lib.ListN.{getD, set}
 use lib.IntN.{ℤ}
-use Rattle.meaning.specs.Limits.{nodeCells, parties, partyWalks, walkLevels, walkNumbers, wordWidth}
+use Rattle.meaning.specs.Limits.{nodeCells, walkCount, wordWidth, walkLevels, walkNumbers}
 use Rattle.meaning.specs.Counting.{bit}
 use Rattle.meaning.specs.Lent.{VersionRecord, emptyRecord, WalkSlices}
 use Rattle.meaning.specs.Trees.{heightOf}
@@ -16,9 +16,6 @@ use Rattle.lookup.specs.declared.Got.the-variants.{Element, Nothing}
 use Rattle.index.specs.Index.{along, Within}
 use Rattle.level.specs.Level.{Levels, levels, popped, placeAt, passedAt}
 use Rattle.levels.specs.Levels.{Taken, oneTaken}
-
-abbrev pub walks : ℕ
-walks = parties * partyWalks
 
 abbrev pub slices : List ℕ → List ℕ → List ℤ → WalkSlices
 slices numbers nodes indices = record { numbers = numbers; nodes = nodes; indices = indices }
@@ -36,7 +33,7 @@ versionIn ns n = record { live = numberAt ns n 0; root = numberAt ns n 1; bits =
 
 -- what is asked of callers
 pub record Walkable (numbers : List ℕ) (n : ℕ) : Type 0 where
-  pub walk : n < walks
+  pub walk : n < walkCount
   pub legal : Legal (numberAt numbers n 2) (numberAt numbers n 3)
   pub taken : numberAt numbers n 4 + numberAt numbers n 5 ≤ numberAt numbers n 3
 
@@ -106,7 +103,7 @@ passedOn b ws n m =
 
 -- what is stored of that fits
 pub record Passable (back : Bool) (numbers : List ℕ) (indices : List ℤ) (n m : ℕ) : Type 0 where
-  pub walk : n < walks
+  pub walk : n < walkCount
   pub counts : takenAt numbers n back + m < 2 ^ wordWidth
   pub within : Within back (placeAt indices (stackAt n back)) m
 

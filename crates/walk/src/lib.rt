@@ -1,31 +1,28 @@
 // Module 5: sixteen walk records, lent flat and changed in place. A walk takes the elements of a version from both ends.
-use level::LEVELS;
-use level::PLACES;
-use level::WALKS;
+use limits::ALL_NUMBERS;
+use limits::PLACES;
+use limits::WALK_LEVELS;
+use limits::WALK_NUMBERS;
 use lookup::Got;
 use records::Version;
 ghost use mathlib.Core.Path.{_≡_};
 ghost use mathlib.Core.Bool.{Bool, true, false};
 ghost use Prim.Native.Nat.{ℕ, _+_, _*_, _<_, _≤_};
 ghost use Rattle.meaning.specs.Counting.{bit};
-ghost use Rattle.meaning.specs.Limits.{walkLevels};
+ghost use Rattle.meaning.specs.Limits.{walkCount, walkLevels, places};
 ghost use Rattle.records.specs.Records.{recordOf};
-ghost use Rattle.level.specs.Level.{places, levels};
-ghost use Rattle.walk.specs.Walk.{walks, slices, stored, openRecord, isEnded, versionIn, clearedFrom, closed, Walkable, numberAt, stepped, takenBy, passedOn, Passable, Staying};
+ghost use Rattle.level.specs.Level.{levels};
+ghost use Rattle.walk.specs.Walk.{slices, stored, openRecord, isEnded, versionIn, clearedFrom, closed, Walkable, numberAt, stepped, takenBy, passedOn, Passable, Staying};
 ghost use mathlib.Core.List.{List};
-
-pub const NUMBERS: usize = 6;
-
-pub const ROOM: usize = WALKS * NUMBERS;
 
 // ---- opening and closing
 
 // The numbers of walk n: a version of which nothing is taken.
-fn store(numbers: &mut [u32; ROOM], n: u32, v: Version)
-    requires { ⌜ n < walks ⌝ }
+fn store(numbers: &mut [u32; ALL_NUMBERS], n: u32, v: Version)
+    requires { ⌜ n < walkCount ⌝ }
     ensures { λ _. ⌜ now (numbers .exit) ≡ stored (now (numbers .entry)) n (recordOf v) ⌝ }
 {
-    let at = NUMBERS * (n as usize);
+    let at = WALK_NUMBERS * (n as usize);
     numbers[at] = v.live;
     numbers[at + 1] = v.root;
     numbers[at + 2] = v.bits;
@@ -35,8 +32,8 @@ fn store(numbers: &mut [u32; ROOM], n: u32, v: Version)
 }
 
 // Of a closed walk: its levels are 0 already.
-pub fn open(numbers: &mut [u32; ROOM], n: u32, v: Version)
-    requires { ⌜ n < walks ⌝ }
+pub fn open(numbers: &mut [u32; ALL_NUMBERS], n: u32, v: Version)
+    requires { ⌜ n < walkCount ⌝ }
     ensures { λ _. ⌜ now (numbers .exit) ≡ stored (now (numbers .entry)) n (openRecord (recordOf v)) ⌝ }
 {
     store(
@@ -56,7 +53,7 @@ fn clear(nodes: &mut [u32; PLACES], indices: &mut [i32; PLACES], k: usize)
     requires { ⌜ k + 2 * walkLevels ≤ places ⌝ }
     ensures { λ _. ⌜ levels (now (nodes .exit)) (now (indices .exit)) ≡ clearedFrom (2 * walkLevels) (levels (now (nodes .entry)) (now (indices .entry))) k ⌝ }
 {
-    let e = k + 2 * LEVELS;
+    let e = k + 2 * WALK_LEVELS;
     let mut j = k;
     while j < e {
         level::pop(nodes, indices, j);
@@ -65,25 +62,25 @@ fn clear(nodes: &mut [u32; PLACES], indices: &mut [i32; PLACES], k: usize)
 }
 
 pub fn close(
-    numbers: &mut [u32; ROOM],
+    numbers: &mut [u32; ALL_NUMBERS],
     nodes: &mut [u32; PLACES],
     indices: &mut [i32; PLACES],
     n: u32,
 )
-    requires { ⌜ n < walks ⌝ }
+    requires { ⌜ n < walkCount ⌝ }
     ensures { λ _. ⌜ slices (now (numbers .exit)) (now (nodes .exit)) (now (indices .exit)) ≡ closed (slices (now (numbers .entry)) (now (nodes .entry)) (now (indices .entry))) n ⌝ }
 {
     store(numbers, n, Version::empty());
-    clear(nodes, indices, 2 * LEVELS * (n as usize));
+    clear(nodes, indices, 2 * WALK_LEVELS * (n as usize));
 }
 
 // ---- taking
 
-pub fn version(numbers: &[u32; ROOM], n: u32) -> Version
-    requires { ⌜ n < walks ⌝ }
+pub fn version(numbers: &[u32; ALL_NUMBERS], n: u32) -> Version
+    requires { ⌜ n < walkCount ⌝ }
     ensures { λ r. ⌜ recordOf r ≡ versionIn (now (numbers .entry)) n ⌝ }
 {
-    let at = NUMBERS * (n as usize);
+    let at = WALK_NUMBERS * (n as usize);
     Version {
         live: numbers[at],
         root: numbers[at + 1],
@@ -93,11 +90,11 @@ pub fn version(numbers: &[u32; ROOM], n: u32) -> Version
 }
 
 // All elements are taken, from one end and the other.
-fn ended(numbers: &[u32; ROOM], n: u32) -> bool
+fn ended(numbers: &[u32; ALL_NUMBERS], n: u32) -> bool
     requires { ⌜ Walkable (now numbers) n ⌝ }
     ensures { λ r. ⌜ r ≡ isEnded (now (numbers .entry)) n ⌝ }
 {
-    let at = NUMBERS * (n as usize);
+    let at = WALK_NUMBERS * (n as usize);
     numbers[at + 4] + numbers[at + 5] == numbers[at + 3]
 }
 
@@ -112,7 +109,7 @@ fn side(back: bool) -> usize
 pub fn take(
     cells: &[u32],
     used: &[u8],
-    numbers: &mut [u32; ROOM],
+    numbers: &mut [u32; ALL_NUMBERS],
     nodes: &mut [u32; PLACES],
     indices: &mut [i32; PLACES],
     n: u32,
@@ -127,7 +124,7 @@ pub fn take(
     }
     let v = version(numbers, n);
     let s = side(back);
-    let at = NUMBERS * (n as usize) + 4 + s;
+    let at = WALK_NUMBERS * (n as usize) + 4 + s;
     let taken = numbers[at];
     let x = levels::take(
         cells,
@@ -135,7 +132,7 @@ pub fn take(
         nodes,
         indices,
         back,
-        LEVELS * (2 * (n as usize) + s),
+        WALK_LEVELS * (2 * (n as usize) + s),
         taken,
         v,
     );
@@ -146,7 +143,7 @@ pub fn take(
 pub fn next(
     cells: &[u32],
     used: &[u8],
-    numbers: &mut [u32; ROOM],
+    numbers: &mut [u32; ALL_NUMBERS],
     nodes: &mut [u32; PLACES],
     indices: &mut [i32; PLACES],
     n: u32,
@@ -161,7 +158,7 @@ pub fn next(
 pub fn next_back(
     cells: &[u32],
     used: &[u8],
-    numbers: &mut [u32; ROOM],
+    numbers: &mut [u32; ALL_NUMBERS],
     nodes: &mut [u32; PLACES],
     indices: &mut [i32; PLACES],
     n: u32,
@@ -192,13 +189,13 @@ fn least(a: u32, b: u32) -> u32
 }
 
 // How many elements are not taken yet; none where the stack of that end does not stand yet.
-fn left(numbers: &[u32; ROOM], n: u32, s: usize) -> u32
+fn left(numbers: &[u32; ALL_NUMBERS], n: u32, s: usize) -> u32
     requires walk { ⌜ Walkable (now numbers) n ⌝ }
     requires side { ⌜ s ≤ 1 ⌝ }
     ensures { λ r. ⌜ (numberAt (now (numbers .entry)) n 4 + numberAt (now (numbers .entry)) n 5 + r ≤ numberAt (now (numbers .entry)) n 3)
         × (0 < r → 0 < numberAt (now (numbers .entry)) n (4 + s)) ⌝ }
 {
-    let at = NUMBERS * (n as usize);
+    let at = WALK_NUMBERS * (n as usize);
     if numbers[at + (4 + s)] == 0 {
         return 0;
     }
@@ -208,7 +205,7 @@ fn left(numbers: &[u32; ROOM], n: u32, s: usize) -> u32
 // How far the next elements from an end are cells of one leaf.
 pub fn stretch_in_leaf(
     used: &[u8],
-    numbers: &[u32; ROOM],
+    numbers: &[u32; ALL_NUMBERS],
     nodes: &[u32; PLACES],
     indices: &[i32; PLACES],
     n: u32,
@@ -218,7 +215,7 @@ pub fn stretch_in_leaf(
     ensures { λ r. ⌜ (0 < r .most → Staying (now (used .entry)) back (slices (now (numbers .entry)) (now (nodes .entry)) (now (indices .entry))) n (r .node) (r .place) (r .most)) ⌝ }
 {
     let s = side(back);
-    let k = LEVELS * (2 * (n as usize) + s);
+    let k = WALK_LEVELS * (2 * (n as usize) + s);
     let stay = level::staying(used, nodes, indices, back, k);
     let rest = left(numbers, n, s);
     let most = least(stay, rest);
@@ -232,13 +229,19 @@ pub fn stretch_in_leaf(
 }
 
 // Takes m elements that are cells of one leaf.
-pub fn pass_on(numbers: &mut [u32; ROOM], indices: &mut [i32; PLACES], n: u32, back: bool, m: u32)
+pub fn pass_on(
+    numbers: &mut [u32; ALL_NUMBERS],
+    indices: &mut [i32; PLACES],
+    n: u32,
+    back: bool,
+    m: u32,
+)
     requires { ⌜ Passable back (now numbers) (now indices) n m ⌝ }
     ensures { λ _. ⌜ ((nodes : List ℕ) → slices (now (numbers .exit)) nodes (now (indices .exit)) ≡ passedOn back (slices (now (numbers .entry)) nodes (now (indices .entry))) n m) ⌝ }
 {
     let s = side(back);
-    let at = NUMBERS * (n as usize) + 4 + s;
+    let at = WALK_NUMBERS * (n as usize) + 4 + s;
     let taken = numbers[at] + m;
     numbers[at] = taken;
-    level::pass(indices, back, LEVELS * (2 * (n as usize) + s), m);
+    level::pass(indices, back, WALK_LEVELS * (2 * (n as usize) + s), m);
 }

@@ -1,10 +1,9 @@
 // The walk records copied out of the slices that a host lends into arrays, and back.
-use level::PLACES;
-use walk::ROOM;
+use limits::ALL_NUMBERS;
+use limits::PLACES;
 ghost use mathlib.Core.Path.{_≡_};
 ghost use lib.ListN.{length};
-ghost use Rattle.level.specs.Level.{places};
-ghost use Rattle.walk_copies.specs.Rooms.{room};
+ghost use Rattle.meaning.specs.Limits.{allNumbers, places};
 
 // ---- all of a slice, word by word or index by index
 
@@ -34,11 +33,11 @@ fn copy_indices(to: &mut [i32], indices: &[i32])
 
 // ---- out of what is lent
 
-pub fn load_numbers(from: &[u32]) -> [u32; ROOM]
-    requires { ⌜ length (now from) ≡ room ⌝ }
+pub fn load_numbers(from: &[u32]) -> [u32; ALL_NUMBERS]
+    requires { ⌜ length (now from) ≡ allNumbers ⌝ }
     ensures { λ r. ⌜ r ≡ now (from .entry) ⌝ }
 {
-    let mut out = [0u32; ROOM];
+    let mut out = [0u32; ALL_NUMBERS];
     copy_words(&mut out, from);
     out
 }
@@ -63,8 +62,8 @@ pub fn load_indices(from: &[i32]) -> [i32; PLACES]
 
 // ---- and back
 
-pub fn store_numbers(to: &mut [u32], from: &[u32; ROOM])
-    requires { ⌜ length (now to) ≡ room ⌝ }
+pub fn store_numbers(to: &mut [u32], from: &[u32; ALL_NUMBERS])
+    requires { ⌜ length (now to) ≡ allNumbers ⌝ }
     ensures { λ _. ⌜ now (to .exit) ≡ now (from .entry) ⌝ }
 {
     copy_words(to, from);

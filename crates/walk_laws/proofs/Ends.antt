@@ -10,13 +10,13 @@ use lib.Dec.{eqb}
 use lib.ListN.{length, take, drop, replicate, length-replicate, replicate-append-replicate}
 use lib.Seq.{take-at, drop-at}
 use borrow.Author.Tests.{eq-eqb, ne-eqb, eqb-true, eqb-false}
-use Rattle.meaning.specs.Limits.{walkLevels}
+use Rattle.meaning.specs.Limits.{walkLevels, places}
 use Rattle.meaning.specs.Lent.{Nodes, VersionRecord, Level, noLevel}
 use Rattle.meaning.specs.Trees.{heightOf, element}
 use Rattle.meaning.specs.Walks.{way, stack, padded}
 use Rattle.meaning.specs.WellFormed.{Live}
 use Rattle.shape.proofs.Capacity.{height-levels}
-use Rattle.level.specs.Level.{places, Levels, pushed}
+use Rattle.level.specs.Level.{Levels, pushed}
 use Rattle.levels.specs.Levels.{advancedBy, initialised, oneTaken}
 use Rattle.walk_laws.specs.Stack.{Moved, moves, current, begun, digging, emptied, renewing, advancing}
 use Rattle.walk_laws.proofs.Ways.{way-length, element-current}

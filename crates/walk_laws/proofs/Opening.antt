@@ -7,7 +7,7 @@ use native.Mathlib.Nat.{lt-irrefl, eq-or-lt-of-le}
 use native.Mathlib.Omega.{arith}
 use lib.ListN.{replicate}
 use lib.Seq.{take-all}
-use Rattle.meaning.specs.Limits.{walkLevels}
+use Rattle.meaning.specs.Limits.{walkCount, walkLevels, places}
 use Rattle.meaning.specs.Lent.{Nodes, VersionRecord, emptyRecord, Level, noLevel, WalkSlices, WalkRecord, closedRecord, walkRecord}
 use Rattle.meaning.specs.Trees.{contents}
 use Rattle.meaning.specs.Walks.{stack, padded, forwardStack, backwardStack}
@@ -15,8 +15,8 @@ use Rattle.meaning.specs.WellFormed.{Live, Open}
 use Rattle.meaning.specs.Table.{taking}
 use Rattle.meaning.specs.Stands.{leftBetween}
 use Rattle.lookup.proofs.Found.{contents-length}
-use Rattle.level.specs.Level.{places, Levels, popped}
-use Rattle.walk.specs.Walk.{walks, levelsOf, openRecord, opened, clearedFrom, closed}
+use Rattle.level.specs.Level.{Levels, popped}
+use Rattle.walk.specs.Walk.{levelsOf, openRecord, opened, clearedFrom, closed}
 use Rattle.walk_laws.specs.Took.{Sized, SlicesFit, Opened, Closed}
 use Rattle.walk_laws.proofs.Places.{levelIn, Outside, put-here, put-other, put-sized, popped-put}
 use Rattle.walk_laws.proofs.Seen.{stackIn, stack-same}
@@ -26,7 +26,7 @@ use Rattle.walk_laws.proofs.Takes.{left-is}
 
 -- ---- opening
 
-module _ (s : Nodes) (ws : WalkSlices) (n : ℕ) (v : VersionRecord) (fits : SlicesFit ws) (in-range : n < walks) (live : Live s v) (is : walkRecord ws n ≡ closedRecord) where
+module _ (s : Nodes) (ws : WalkSlices) (n : ℕ) (v : VersionRecord) (fits : SlicesFit ws) (in-range : n < walkCount) (live : Live s v) (is : walkRecord ws n ≡ closedRecord) where
   abbrev fresh : WalkRecord
   fresh = record { version = v; front = 0; back = 0; forward = replicate walkLevels noLevel; backward = replicate walkLevels noLevel }
 
@@ -96,7 +96,7 @@ stack-blank zero w k h = refl
 stack-blank (suc m) w k h =
     ap₂ (λ (l : Level) (ls : List Level). l ∷ ls) (h k (omega arith) (omega arith)) (stack-blank m w (k + 1) (λ i a c. h i (omega arith) (omega arith)))
 
-module _ (ws : WalkSlices) (n : ℕ) (fits : SlicesFit ws) (in-range : n < walks) where
+module _ (ws : WalkSlices) (n : ℕ) (fits : SlicesFit ws) (in-range : n < walkCount) where
   stack-cleared : (q : ℕ) → 2 * n ≤ q → q ≤ 2 * n + 1 → stackOf (levelsOf (closed ws n)) q ≡ replicate walkLevels noLevel
   unfolding closed
   stack-cleared q a c =

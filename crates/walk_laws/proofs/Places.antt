@@ -9,8 +9,9 @@ use lib.Dec.{eqb}
 use lib.ListN.{getD, set, length-set}
 use lib.Seq.{getD-set-same, getD-set-other, set-getD}
 use lib.IntN.{pos}
+use Rattle.meaning.specs.Limits.{places}
 use Rattle.meaning.specs.Lent.{Level, noLevel}
-use Rattle.level.specs.Level.{places, Levels, levels, currentAt, pushed, popped, dug, indexAfter, steppedAt, endedAt}
+use Rattle.level.specs.Level.{Levels, levels, currentAt, pushed, popped, dug, indexAfter, steppedAt, endedAt}
 use Rattle.levels.specs.Levels.{Out, renewed, advancedBy, dugDown, initialised, oneTaken}
 use Rattle.walk_laws.specs.Stack.{begun}
 use Rattle.walk_laws.specs.Took.{Sized}

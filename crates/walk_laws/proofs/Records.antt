@@ -8,7 +8,7 @@ use native.Mathlib.Nat.{lt-irrefl}
 use native.Mathlib.Omega.{arith}
 use lib.ListN.{set, length-set}
 use lib.Seq.{getD-set-same, getD-set-other}
-use Rattle.meaning.specs.Limits.{walkLevels, walkNumbers}
+use Rattle.meaning.specs.Limits.{walkCount, walkLevels, walkNumbers}
 use Rattle.meaning.specs.Counting.{bit, rows}
 use Rattle.meaning.specs.Lent.{Lent, WalkSlices, WalkRecord, Level, levelOf, walkRecord}
 use Rattle.meaning.specs.Trees.{heightOf}
@@ -16,7 +16,7 @@ use Rattle.meaning.specs.WellFormed.{SizesFit}
 use Rattle.lookup.specs.declared.Got.the-variants.{Element}
 use Rattle.level.specs.Level.{Levels}
 use Rattle.levels.specs.Levels.{Taken}
-use Rattle.walk.specs.Walk.{walks, slices, levelsOf, numberAt, versionIn, isEnded, stepped, takenAt, stackAt, takenOf, takenBy}
+use Rattle.walk.specs.Walk.{slices, levelsOf, numberAt, versionIn, isEnded, stepped, takenAt, stackAt, takenOf, takenBy}
 use Rattle.walk_laws.specs.Took.{SlicesFit}
 use Rattle.walk_laws.proofs.Places.{taken-sized, taken-outside}
 use Rattle.walk_laws.proofs.Seen.{stackIn, stack-same, stack-rows}
@@ -63,7 +63,7 @@ bit-small false = omega arith
 
 -- ---- one element taken
 
-module _ (cs us : List ℕ) (b : Bool) (ws : WalkSlices) (n : ℕ) (fits : SlicesFit ws) (in-range : n < walks) (low : heightOf (versionIn (ws .numbers) n) < walkLevels) where
+module _ (cs us : List ℕ) (b : Bool) (ws : WalkSlices) (n : ℕ) (fits : SlicesFit ws) (in-range : n < walkCount) (low : heightOf (versionIn (ws .numbers) n) < walkLevels) where
   abbrev pub taken : Taken
   taken = takenOf cs us b ws n
 

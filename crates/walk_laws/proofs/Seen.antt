@@ -6,9 +6,10 @@ use Prim.Native.Nat.{ℕ, zero, suc, _+_, _≤_, _<_}
 use native.Mathlib.Nat.{lt-irrefl}
 use native.Mathlib.Omega.{arith}
 use lib.ListN.{length}
+use Rattle.meaning.specs.Limits.{places}
 use Rattle.meaning.specs.Counting.{rows}
 use Rattle.meaning.specs.Lent.{Level, noLevel}
-use Rattle.level.specs.Level.{places, Levels, currentAt, pushed, popped, dug, indexAfter, steppedAt, endedAt}
+use Rattle.level.specs.Level.{Levels, currentAt, pushed, popped, dug, indexAfter, steppedAt, endedAt}
 use Rattle.levels.specs.Levels.{Out, out, renewed, advancedBy, dugDown}
 use Rattle.levels.proofs.StackLaws.{has-level}
 use Rattle.walk_laws.specs.Stack.{Moved, moves, current, begun, digging, emptied, renewing, advancing}

@@ -7,9 +7,9 @@ use native.Mathlib.Nat.{lt-irrefl}
 use native.Mathlib.Omega.{arith}
 use lib.ListN.{length, set, length-set}
 use lib.Seq.{getD-set-same, getD-set-other}
-use Rattle.meaning.specs.Limits.{walkNumbers}
+use Rattle.meaning.specs.Limits.{walkCount, walkNumbers, allNumbers}
 use Rattle.meaning.specs.Lent.{VersionRecord}
-use Rattle.walk.specs.Walk.{walks, numberAt, versionIn, stored}
+use Rattle.walk.specs.Walk.{numberAt, versionIn, stored}
 
 module _ (ns : List ℕ) (n : ℕ) (v : VersionRecord) where
   abbrev after1 : List ℕ
@@ -38,13 +38,13 @@ module _ (ns : List ℕ) (n : ℕ) (v : VersionRecord) where
       ∙ (far after3 3 m k (v .length) ne (omega arith) l
       ∙ (far after2 2 m k (v .bits) ne (omega arith) l ∙ (far after1 1 m k (v .root) ne (omega arith) l ∙ far ns 0 m k (v .live) ne (omega arith) l))))
 
-  module _ (long : length ns ≡ walks * walkNumbers) (in-range : n < walks) where
-    pub stored-length : length (stored ns n v) ≡ walks * walkNumbers
+  module _ (long : length ns ≡ allNumbers) (in-range : n < walkCount) where
+    pub stored-length : length (stored ns n v) ≡ allNumbers
     unfolding stored
     stored-length = simp length-set long
 
     -- number k is what was stored last there
-    same : (xs : List ℕ) (k x : ℕ) → length xs ≡ walks * walkNumbers → k < walkNumbers → numberAt (set xs (walkNumbers * n + k) x) n k ≡ x
+    same : (xs : List ℕ) (k x : ℕ) → length xs ≡ allNumbers → k < walkNumbers → numberAt (set xs (walkNumbers * n + k) x) n k ≡ x
     same xs k x l h = getD-set-same xs (walkNumbers * n + k) x 0 (omega arith)
 
     other : (xs : List ℕ) (j k x : ℕ) → k ≢ j → numberAt (set xs (walkNumbers * n + j) x) n k ≡ numberAt xs n k

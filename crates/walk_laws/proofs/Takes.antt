@@ -8,7 +8,7 @@ use native.Mathlib.Nat.{lt-irrefl, eq-or-lt-of-le}
 use native.Mathlib.Omega.{arith}
 use lib.ListN.{length, getD}
 use borrow.Author.Tests.{eq-eqb, ne-eqb}
-use Rattle.meaning.specs.Limits.{walkLevels}
+use Rattle.meaning.specs.Limits.{walkCount, walkLevels, places}
 use Rattle.meaning.specs.Lent.{Nodes, VersionRecord, WalkSlices, WalkRecord, walkRecord}
 use Rattle.meaning.specs.Trees.{heightOf, element, contents}
 use Rattle.meaning.specs.Walks.{forwardStack, backwardStack}
@@ -19,8 +19,7 @@ use Rattle.meaning.specs.Effects.{firstItem, lastItem, withoutFirst, withoutLas
 use Rattle.shape.proofs.Capacity.{height-levels}
 use Rattle.lookup.specs.declared.Got.the-variants.{Element, Nothing}
 use Rattle.lookup.proofs.Found.{element-in, contents-at, contents-length}
-use Rattle.level.specs.Level.{places}
-use Rattle.walk.specs.Walk.{walks, levelsOf, versionIn, Walkable, isEnded, Step, stepped, stackAt, takenOf, takenBy}
+use Rattle.walk.specs.Walk.{levelsOf, versionIn, Walkable, isEnded, Step, stepped, stackAt, takenOf, takenBy}
 use Rattle.walk_laws.specs.Took.{SlicesFit, frontTaken, backTaken, Took}
 use Rattle.walk_laws.proofs.Ends.{stack-after, element-next}
 use Rattle.walk_laws.proofs.Left.{left-none, none-left, first-left, without-first, last-left, without-last}
@@ -42,7 +41,7 @@ same-rest xs ys e = cc
 content-at : (s : Nodes) (v : VersionRecord) (i : ℕ) → i < v .length → element s (v .bits) (heightOf v) (v .root) i ≡ getD (contents s v) i 0
 content-at s v i l = sym (element-in s (v .bits) (heightOf v) (v .root) i) ∙ contents-at s v i l
 
-module _ (s : Nodes) (ws : WalkSlices) (n : ℕ) (fits : SlicesFit ws) (in-range : n < walks) (o : Open s (walkRecord ws n)) where
+module _ (s : Nodes) (ws : WalkSlices) (n : ℕ) (fits : SlicesFit ws) (in-range : n < walkCount) (o : Open s (walkRecord ws n)) where
   abbrev w : WalkRecord
   w = readRecord ws n
 

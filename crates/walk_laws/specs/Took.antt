@@ -4,7 +4,7 @@ use mathlib.Core.Logic.{_≢_}
 use mathlib.Core.List.{List}
 use Prim.Native.Nat.{ℕ, _+_, _*_}
 use lib.ListN.{length}
-use Rattle.meaning.specs.Limits.{walkNumbers}
+use Rattle.meaning.specs.Limits.{allNumbers, places}
 use Rattle.meaning.specs.Lent.{Nodes, VersionRecord, WalkSlices, WalkRecord, closedRecord, walkRecord}
 use Rattle.meaning.specs.Trees.{contents}
 use Rattle.meaning.specs.Walks.{forwardStack, backwardStack}
@@ -12,8 +12,8 @@ use Rattle.meaning.specs.WellFormed.{Open}
 use Rattle.meaning.specs.Table.{taking}
 use Rattle.meaning.specs.Stands.{walkOf}
 use Rattle.lookup.specs.declared.Got.the-variants.{Element}
-use Rattle.level.specs.Level.{places, Levels}
-use Rattle.walk.specs.Walk.{walks, levelsOf, Step}
+use Rattle.level.specs.Level.{Levels}
+use Rattle.walk.specs.Walk.{levelsOf, Step}
 
 -- ---- the lent lengths
 
@@ -22,7 +22,7 @@ pub record Sized (w : Levels) : Type 0 where
   pub indices : length (w .indices) ≡ places
 
 pub record SlicesFit (ws : WalkSlices) : Type 0 where
-  pub numbers : length (ws .numbers) ≡ walks * walkNumbers
+  pub numbers : length (ws .numbers) ≡ allNumbers
   pub levels : Sized (levelsOf ws)
 
 -- ---- one element taken

@@ -5,7 +5,7 @@ use mathlib.Core.List.{List, _∷_}
 use Prim.Native.Nat.{ℕ, _+_, _*_, _<_}
 use native.Mathlib.Omega.{arith}
 use lib.ListN.{getD, set}
-use Rattle.meaning.specs.Limits.{parties, partyWalks}
+use Rattle.meaning.specs.Limits.{parties, partyWalks, walkCount}
 use Rattle.meaning.specs.Counting.{occurrences}
 use Rattle.meaning.specs.Lent.{VersionRecord, emptyRecord, WalkSlices, WalkRecord, walkRecord, walkRecords}
 use Rattle.meaning.specs.Links.{liveRoots, roots}
@@ -30,7 +30,7 @@ use Rattle.upkeep.proofs.Tables.{slot-stays, walk-stays, SlotsAgree, WalksAgree
 use Rattle.walking.specs.Walked.{walked}
 use Rattle.walking.proofs.Records.{walked-length, walked-at, root-count, walked-set, records-set, slices-fit, sizes-again}
 
-module _ (s : Store) (vs : List VersionRecord) (ws : WalkSlices) (r : Running s vs ws) (i : ℕ) (inside : i < walk.walks)
+module _ (s : Store) (vs : List VersionRecord) (ws : WalkSlices) (r : Running s vs ws) (i : ℕ) (inside : i < walkCount)
     (live : walkRecord ws i .version .live ≡ 1) where
   abbrev root : ℕ
   root = walkRecord ws i .version .root

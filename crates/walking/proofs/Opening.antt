@@ -6,7 +6,7 @@ use Prim.Native.Nat.{ℕ, zero, _+_, _*_, _<_}
 use native.Mathlib.Nat.{lt-irrefl}
 use native.Mathlib.Omega.{arith}
 use lib.ListN.{getD, set}
-use Rattle.meaning.specs.Limits.{parties, partyWalks}
+use Rattle.meaning.specs.Limits.{parties, partyWalks, walkCount}
 use Rattle.meaning.specs.Counting.{occurrences}
 use Rattle.meaning.specs.Lent.{VersionRecord, emptyRecord, WalkSlices, WalkRecord, closedRecord, walkRecord, walkRecords}
 use Rattle.meaning.specs.Links.{liveRoots, roots}
@@ -20,7 +20,7 @@ use Rattle.meaning.proofs.Sums.{occurs-cons}
 use Rattle.store.specs.Store.{Store, raised}
 use Rattle.ledger.specs.Kept.{Kept}
 use Rattle.ledger.proofs.Raising.{roots-permute, raised-one}
-use Rattle.walk.specs.Walk.{walks, openRecord, opened}
+use Rattle.walk.specs.Walk.{openRecord, opened}
 use Rattle.walk_laws.specs.Took.{Opened}
 use Rattle.walk_laws.proofs.Records.{record-read}
 use Rattle.walk_laws.proofs.Stored.{stored-version}
@@ -31,7 +31,7 @@ use Rattle.upkeep.proofs.Tables.{table-walk}
 use Rattle.walking.specs.Walked.{walked}
 use Rattle.walking.proofs.Records.{walked-length, walked-at, root-count, walked-set, records-set, slices-fit, sizes-again}
 
-module _ (s : Store) (vs : List VersionRecord) (ws : WalkSlices) (r : Running s vs ws) (i : ℕ) (inside : i < walks)
+module _ (s : Store) (vs : List VersionRecord) (ws : WalkSlices) (r : Running s vs ws) (i : ℕ) (inside : i < walkCount)
     (vacant : walkRecord ws i ≡ closedRecord) (v : VersionRecord) (live : Live (s .nodes) v) where
   abbrev after : Store
   after = raised s (v .root ∷ [])

@@ -6,7 +6,7 @@ use Prim.Native.Nat.{ℕ, _+_, _*_, _<_}
 use native.Mathlib.Omega.{arith}
 use lib.ListN.{set}
 use lib.Seq.{set-getD}
-use Rattle.meaning.specs.Limits.{parties, partyWalks}
+use Rattle.meaning.specs.Limits.{parties, partyWalks, walkCount}
 use Rattle.meaning.specs.Counting.{occurrences}
 use Rattle.meaning.specs.Lent.{VersionRecord, emptyRecord, WalkSlices, WalkRecord, walkRecord, walkRecords}
 use Rattle.meaning.specs.Links.{liveRoots, roots}
@@ -17,14 +17,14 @@ use Rattle.meaning.proofs.Lists.{each-set}
 use Rattle.store.specs.Store.{Store}
 use Rattle.ledger.specs.Kept.{Kept}
 use Rattle.ledger.proofs.Raising.{roots-permute}
-use Rattle.walk.specs.Walk.{walks, Step}
+use Rattle.walk.specs.Walk.{Step}
 use Rattle.walk_laws.specs.Took.{Took}
 use Rattle.upkeep.specs.Running.{stateOf, Running}
 use Rattle.upkeep.proofs.Tables.{table-walk}
 use Rattle.walking.specs.Walked.{walked}
 use Rattle.walking.proofs.Records.{walked-at, root-count, walked-set, records-set, sizes-again}
 
-module _ (s : Store) (vs : List VersionRecord) (ws : WalkSlices) (r : Running s vs ws) (i : ℕ) (inside : i < walks)
+module _ (s : Store) (vs : List VersionRecord) (ws : WalkSlices) (r : Running s vs ws) (i : ℕ) (inside : i < walkCount)
     (item : ℕ) (rest : List ℕ) (w : WalkRecord) (step : Step) (took : Took (s .nodes) ws i item rest w step) (same : w .version ≡ walkRecord ws i .version) where
   abbrev then : WalkSlices
   then = step .slices

@@ -1,8 +1,9 @@
 -- `audit_tally::tally_nodes` meets its contract.
 use mathlib.Core.Path.{_≡_}
-use Prim.Native.Nat.{_≤_, _-_}
+use Prim.Native.Nat.{_≤_, _-_, _+_}
 use native.Mathlib.Omega.{arith}
 use lib.ListN.{length}
+use Rattle.meaning.specs.Limits.{maxNodes, versionCount, walkCount}
 use Rattle.audit_model.specs.Tallies.{nodesTally}
 use Rattle.audit_model.specs.Made.{nodesOf}
 use Rattle.audit_tally.proofs.Raising.{nodes-start, nodes-next, nodes-ends, nodes-under, nodes-same}
@@ -22,7 +23,7 @@ loop-holds : tie.Need-loop-holds Inv-loop μ-loop
 loop-holds c = (omega arith, nodes-start _ _)
 
 tally-node-requires : tie.Need-tally-node-requires Inv-loop μ-loop
-tally-node-requires c κs = nodes-under (nodesOf (c .before .before .before .before .before .before .before .args .kinds .now) (c .before .before .before .before .before .before .before .args .used .now) (c .before .before .before .before .before .before .before .args .cells .now)) (c .before .before .loop .m) _ _ 65616 3999999000 (c .before .before .loop .inv .1) (λ n. omega (arith, c .before .before .before .before .before .shared-slice-known2 .given n)) (c .before .before .before .before .before .before .before .pre .1) (omega (arith, c .before .loop-test .taken, c .before .before .before .before .before .before .before .pre .0))
+tally-node-requires c κs = nodes-under (nodesOf (c .before .before .before .before .before .before .before .args .kinds .now) (c .before .before .before .before .before .before .before .args .used .now) (c .before .before .before .before .before .before .before .args .cells .now)) (c .before .before .loop .m) _ _ (maxNodes + versionCount + walkCount) 3999999000 (c .before .before .loop .inv .1) (λ n. omega (arith, c .before .before .before .before .before .shared-slice-known2 .given n)) (c .before .before .before .before .before .before .before .pre .1) (omega (arith, c .before .loop-test .taken, c .before .before .before .before .before .before .before .pre .0))
 
 add-m : tie.Need-add-m Inv-loop μ-loop
 add-m c = record { fits = omega (arith, c .before .before .before .before .loop-test .taken, c .before .before .before .before .before .before .before .before .before .before .pre .0) }

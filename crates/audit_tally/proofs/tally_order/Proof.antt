@@ -6,6 +6,7 @@ use native.Mathlib.Omega.{arith}
 use lib.ListN.{getD}
 use borrow.Author.Tests.{not-true, not-false}
 use borrow.Author.Needs.{needs}
+use Rattle.meaning.specs.Limits.{maxNodes}
 use Rattle.meaning.specs.Lent.{isFree}
 use Rattle.audit_model.proofs.Steps.{all-start, all-next, all-fails, all-ends}
 use Rattle.audit_model.proofs.Tests.{true≢false}
@@ -56,7 +57,7 @@ same-length-2 : tie.Need-same-length-2 Inv-loop μ-loop
 same-length-2 c = to-same _ _ (c .before .loop .j) _ (c .before .loop .inv .2)
 
 returns-2 : tie.Need-returns-2 Inv-loop μ-loop
-returns-2 c = (all-ends (c .before .loop .j) _ _ (c .before .loop .inv .1) (c .before .loop .inv .0) (c .loop-test .left), λ _. (to-ends _ _ (c .before .loop .j) _ _ (c .before .loop .inv .2) (c .before .loop .inv .0) (c .loop-test .left), to-under _ _ (c .before .loop .j) _ 0 65536 (c .before .loop .inv .2) (c .before .before .before .before .before .pre .1) (omega (arith, c .before .loop .inv .0, c .before .before .before .before .before .pre .0))))
+returns-2 c = (all-ends (c .before .loop .j) _ _ (c .before .loop .inv .1) (c .before .loop .inv .0) (c .loop-test .left), λ _. (to-ends _ _ (c .before .loop .j) _ _ (c .before .loop .inv .2) (c .before .loop .inv .0) (c .loop-test .left), to-under _ _ (c .before .loop .j) _ 0 maxNodes (c .before .loop .inv .2) (c .before .before .before .before .before .pre .1) (omega (arith, c .before .loop .inv .0, c .before .before .before .before .before .pre .0))))
 
 pub tally-order-spec : {M : Type 1} → statement M
 tally-order-spec =

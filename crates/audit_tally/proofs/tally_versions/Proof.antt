@@ -1,8 +1,9 @@
 -- `audit_tally::tally_versions` meets its contract.
 use mathlib.Core.Path.{_≡_}
-use Prim.Native.Nat.{_≤_, _-_}
+use Prim.Native.Nat.{_≤_, _-_, _+_}
 use native.Mathlib.Omega.{arith}
 use borrow.Author.Needs.{needs}
+use Rattle.meaning.specs.Limits.{maxNodes, versionCount}
 use Rattle.records.specs.Records.{recordsOf}
 use Rattle.audit_model.specs.Audit.{versionOf}
 use Rattle.audit_model.specs.Tallies.{rootsTally}
@@ -26,7 +27,7 @@ array-copy-out-v : tie.Need-array-copy-out-v Inv-loop μ-loop
 array-copy-out-v c = search needs
 
 raise-root-requires : tie.Need-raise-root-requires Inv-loop μ-loop
-raise-root-requires c κs = roots-under (versionOf (recordsOf (c .before .before .before .before .before .args .t1))) _ (c .before .before .before .loop .i) _ 65536 4000000000 (c .before .before .before .loop .inv .1) (c .before .before .before .before .before .pre) (omega (arith, c .before .before .loop-test .taken))
+raise-root-requires c κs = roots-under (versionOf (recordsOf (c .before .before .before .before .before .args .t1))) _ (c .before .before .before .loop .i) _ maxNodes 4000000000 (c .before .before .before .loop .inv .1) (c .before .before .before .before .before .pre) (omega (arith, c .before .before .loop-test .taken))
 
 add-i : tie.Need-add-i Inv-loop μ-loop
 add-i c = search needs
@@ -41,7 +42,7 @@ same-length : tie.Need-same-length Inv-loop μ-loop
 same-length c = roots-same (versionOf (recordsOf (c .before .before .before .args .t1))) _ (c .before .loop .i) _ (c .before .loop .inv .1)
 
 returns : tie.Need-returns Inv-loop μ-loop
-returns c = (roots-ends (versionOf (recordsOf (c .before .before .before .args .t1))) _ (c .before .loop .i) _ _ (c .before .loop .inv .1) (c .before .loop .inv .0) (c .loop-test .left), roots-under (versionOf (recordsOf (c .before .before .before .args .t1))) _ (c .before .loop .i) _ 65536 65600 (c .before .loop .inv .1) (c .before .before .before .pre) (omega (arith, c .before .loop .inv .0)))
+returns c = (roots-ends (versionOf (recordsOf (c .before .before .before .args .t1))) _ (c .before .loop .i) _ _ (c .before .loop .inv .1) (c .before .loop .inv .0) (c .loop-test .left), roots-under (versionOf (recordsOf (c .before .before .before .args .t1))) _ (c .before .loop .i) _ maxNodes (maxNodes + versionCount) (c .before .loop .inv .1) (c .before .before .before .pre) (omega (arith, c .before .loop .inv .0)))
 
 pub tally-versions-spec : {M : Type 1} → statement M
 tally-versions-spec =

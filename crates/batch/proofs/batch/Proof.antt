@@ -13,8 +13,8 @@ returns : tie.Need-returns
 returns c = reported _ _ _ _ _ _ _ _ _ _ _ _ (c .before .before .before .before .before .before .before .before .before .before .before .args .versions) _ _ _ (c .report .ensures) (ragged _ _ _ (c .before .if1 .taken))
 
 -- src/lib.rt:120:21
-mul-if2 : tie.Need-mul-if2
-mul-if2 c = search needs
+answer-place-requires : tie.Need-answer-place-requires
+answer-place-requires c κs = search needs
 
 -- src/lib.rt:121:9
 report-requires-2 : tie.Need-report-requires-2
@@ -22,7 +22,7 @@ report-requires-2 c κs = search needs
 
 -- src/lib.rt:121:9
 returns-2 : tie.Need-returns-2
-returns-2 c = reported _ _ _ _ _ _ _ _ _ _ _ _ (c .before .before .before .before .before .before .before .before .before .before .before .before .args .versions) _ _ _ (c .report2 .ensures) (no-room _ _ _ (c .before .before .if1 .left) (c .before .if2 .taken))
+returns-2 c = reported _ _ _ _ _ _ _ _ _ _ _ _ (c .before .before .before .before .before .before .before .before .before .before .before .before .before .args .versions) _ _ _ (c .report2 .ensures) (no-room _ _ _ (c .before .before .before .if1 .left) (rw (c .before .before .answer-place .ensures) at (c .before .if2 .taken)))
 
 -- src/lib.rt:123:9
 audit-requires : tie.Need-audit-requires
@@ -66,7 +66,7 @@ same-length-8 c = search needs
 
 -- src/lib.rt:135:9
 returns-3 : tie.Need-returns-3
-returns-3 c = reported _ _ _ _ _ _ _ _ _ _ _ _ (c .before .before .before .before .before .before .before .before .before .before .before .before .before .before .before .before .before .before .before .before .before .before .before .args .versions) _ _ _ (c .report3 .ensures) (ill-formed _ _ _ (c .before .before .before .before .before .before .before .before .before .before .before .before .before .if1 .left) (c .before .before .before .before .before .before .before .before .before .before .before .before .if2 .left) _ _ (c .before .before .before .audit .ensures) (c .before .if3 .taken))
+returns-3 c = reported _ _ _ _ _ _ _ _ _ _ _ _ (c .before .before .before .before .before .before .before .before .before .before .before .before .before .before .before .before .before .before .before .before .before .before .before .before .args .versions) _ _ _ (c .report3 .ensures) (ill-formed _ _ _ (c .before .before .before .before .before .before .before .before .before .before .before .before .before .before .if1 .left) (rw (c .before .before .before .before .before .before .before .before .before .before .before .before .before .answer-place .ensures) at (c .before .before .before .before .before .before .before .before .before .before .before .before .if2 .left)) _ _ (c .before .before .before .audit .ensures) (c .before .if3 .taken))
 
 -- src/lib.rt:146:9
 cast-serve : tie.Need-cast-serve
@@ -74,7 +74,7 @@ cast-serve c = search needs
 
 -- src/lib.rt:137:9
 serve-requires : tie.Need-serve-requires
-serve-requires c κs = can-run _ _ _ (c .before .before .before .before .before .before .before .before .before .before .before .before .before .before .before .before .before .before .before .before .before .before .if1 .left) (c .before .before .before .before .before .before .before .before .before .before .before .before .before .before .before .before .before .before .before .before .before .if2 .left) _ _ (c .before .before .before .before .before .before .before .before .before .before .before .before .audit .ensures) (c .before .before .before .before .before .before .before .before .before .before .if3 .left) (omega arith)
+serve-requires c κs = can-run _ _ _ (c .before .before .before .before .before .before .before .before .before .before .before .before .before .before .before .before .before .before .before .before .before .before .before .if1 .left) (rw (c .before .before .before .before .before .before .before .before .before .before .before .before .before .before .before .before .before .before .before .before .before .before .answer-place .ensures) at (c .before .before .before .before .before .before .before .before .before .before .before .before .before .before .before .before .before .before .before .before .before .if2 .left)) _ _ (c .before .before .before .before .before .before .before .before .before .before .before .before .audit .ensures) (c .before .before .before .before .before .before .before .before .before .before .if3 .left) (omega arith)
 
 -- src/lib.rt:153:5
 report-requires-4 : tie.Need-report-requires-4
@@ -118,7 +118,7 @@ same-length-17 c = search needs
 
 -- src/lib.rt:96:1
 returns-4 : tie.Need-returns-4
-returns-4 c = reported _ _ _ _ _ _ _ _ _ _ _ _ (c .before .before .before .before .before .before .before .before .before .before .before .before .before .before .before .before .before .before .before .serve .result .versions) _ _ _ (c .report4 .ensures) (served _ _ _ (c .before .before .before .before .before .before .before .before .before .before .before .before .before .before .before .before .before .before .before .before .before .before .before .before .before .before .before .before .before .before .before .before .before .before .before .before .before .before .before .before .before .before .if1 .left) (c .before .before .before .before .before .before .before .before .before .before .before .before .before .before .before .before .before .before .before .before .before .before .before .before .before .before .before .before .before .before .before .before .before .before .before .before .before .before .before .before .before .if2 .left) _ _ (c .before .before .before .before .before .before .before .before .before .before .before .before .before .before .before .before .before .before .before .before .before .before .before .before .before .before .before .before .before .before .before .before .audit .ensures) (c .before .before .before .before .before .before .before .before .before .before .before .before .before .before .before .before .before .before .before .before .before .before .before .before .before .before .before .before .before .before .if3 .left) _ _ (c .before .before .before .before .before .before .before .before .before .before .before .before .before .before .before .before .before .before .before .serve .ensures))
+returns-4 c = reported _ _ _ _ _ _ _ _ _ _ _ _ (c .before .before .before .before .before .before .before .before .before .before .before .before .before .before .before .before .before .before .before .serve .result .versions) _ _ _ (c .report4 .ensures) (served _ _ _ (c .before .before .before .before .before .before .before .before .before .before .before .before .before .before .before .before .before .before .before .before .before .before .before .before .before .before .before .before .before .before .before .before .before .before .before .before .before .before .before .before .before .before .before .if1 .left) (rw (c .before .before .before .before .before .before .before .before .before .before .before .before .before .before .before .before .before .before .before .before .before .before .before .before .before .before .before .before .before .before .before .before .before .before .before .before .before .before .before .before .before .before .answer-place .ensures) at (c .before .before .before .before .before .before .before .before .before .before .before .before .before .before .before .before .before .before .before .before .before .before .before .before .before .before .before .before .before .before .before .before .before .before .before .before .before .before .before .before .before .if2 .left)) _ _ (c .before .before .before .before .before .before .before .before .before .before .before .before .before .before .before .before .before .before .before .before .before .before .before .before .before .before .before .before .before .before .before .before .audit .ensures) (c .before .before .before .before .before .before .before .before .before .before .before .before .before .before .before .before .before .before .before .before .before .before .before .before .before .before .before .before .before .before .if3 .left) _ _ (c .before .before .before .before .before .before .before .before .before .before .before .before .before .before .before .before .before .before .before .serve .ensures))
 
 pub batch-spec : {M : Type 1} → statement M
 batch-spec =
@@ -126,7 +126,7 @@ batch-spec =
     (tie.spec
     report-requires
     returns
-    mul-if2
+    answer-place-requires
     report-requires-2
     returns-2
     audit-requires

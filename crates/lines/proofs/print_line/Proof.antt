@@ -5,8 +5,8 @@ use Rattle.lines.proofs.Printed.{frame-answered, frame-prints, other-pr
 use Rattle.lines.proofs.print_line.Statement.{statement}
 use Rattle.lines.proofs.print_line.Tie as tie
 
-mul-start : tie.Need-mul-start
-mul-start c = search needs
+answer-place-requires : tie.Need-answer-place-requires
+answer-place-requires c κs = omega (arith, frame-answered _ _ _ _ _ (c .before .before .before .pre) (c .if1 .taken))
 
 add-end : tie.Need-add-end
 add-end c = search needs
@@ -18,7 +18,7 @@ part-print-answer-start : tie.Need-part-print-answer-start
 part-print-answer-start c = search needs
 
 part-print-answer-end : tie.Need-part-print-answer-end
-part-print-answer-end c = omega (arith, frame-answered _ _ _ _ _ (c .before .before .before .pre) (c .if1 .taken))
+part-print-answer-end c = omega (arith, frame-answered _ _ _ _ _ (c .before .before .before .before .pre) (c .before .if1 .taken), c .answer-place .ensures)
 
 print-answer-requires : tie.Need-print-answer-requires
 print-answer-requires c κs = search needs
@@ -30,7 +30,7 @@ same-length : tie.Need-same-length
 same-length c = search needs
 
 returns : tie.Need-returns
-returns c = frame-prints _ _ _ _ _ (c .before .before .before .before .before .before .before .before .pre) _ (c .before .before .before .before .before .if1 .taken) (c .before .before .print-answer .ensures)
+returns c = frame-prints _ _ _ _ _ (c .before .before .before .before .before .before .before .before .before .pre) _ _ (c .before .before .before .before .before .before .if1 .taken) (c .before .before .before .before .before .answer-place .ensures) (c .before .before .print-answer .ensures)
 
 slice-aggregate-print-answer : tie.Need-slice-aggregate-print-answer
 slice-aggregate-print-answer c = search needs
@@ -48,7 +48,7 @@ pub print-line-spec : {M : Type 1} → statement M
 print-line-spec =
     tie.close
     (tie.spec
-    mul-start
+    answer-place-requires
     add-end
     sub-print-answer
     part-print-answer-start

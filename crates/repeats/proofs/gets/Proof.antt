@@ -29,9 +29,6 @@ leaf-requires c κs = (c .before .before .before .before .pre .0 .bits, omega (a
 loop-holds : tie.Need-loop-holds Inv-loop μ-loop
 loop-holds c = (row-begins _ _ _ _ (c .before .before .before .before .before .pre .1 .far), gets-begin _ _ _ _ _, refl, c .leaf .ensures)
 
-mul-frame-at : tie.Need-mul-frame-at Inv-loop μ-loop
-mul-frame-at c = omega (arith, c .before .before .before .before .before .before .before .pre .1 .asked, c .before .before .before .before .before .before .before .good, c .loop-test .taken)
-
 frame-at-requires : tie.Need-frame-at-requires Inv-loop μ-loop
 frame-at-requires c κs = omega (arith, c .before .before .before .before .before .before .before .pre .1 .asked, c .loop-test .taken)
 
@@ -52,9 +49,6 @@ bucket-requires c κs = (c .before .before .before .before .before .before .befo
 
 cell-at-requires : tie.Need-cell-at-requires Inv-loop μ-loop
 cell-at-requires c κs = tt
-
-mul-put-answer : tie.Need-mul-put-answer Inv-loop μ-loop
-mul-put-answer c = omega (arith, c .before .before .before .before .before .before .before .before .before .before .before .before .before .before .pre .1 .asked, c .before .before .before .before .before .before .before .before .before .before .before .before .before .before .good, c .before .before .before .before .before .before .before .loop-test .taken)
 
 put-answer-requires : tie.Need-put-answer-requires Inv-loop μ-loop
 put-answer-requires c κs = omega (arith, c .before .before .before .before .before .before .before .before .before .before .before .before .before .before .pre .1 .fits, c .before .before .before .before .before .before .before .loop-test .taken, c .before .before .before .before .before .before .before .before .loop .inv .2)
@@ -83,7 +77,6 @@ gets-spec =
     height-requires
     leaf-requires
     loop-holds
-    mul-frame-at
     frame-at-requires
     is-get-requires
     same-length
@@ -91,7 +84,6 @@ gets-spec =
     leaf-again-requires
     bucket-requires
     cell-at-requires
-    mul-put-answer
     put-answer-requires
     add-j
     loop-less

@@ -23,9 +23,6 @@ abbrev μ-loop : tie.MeasureT-loop
 loop-holds : tie.Need-loop-holds Inv-loop μ-loop
 loop-holds c = (row-begins _ _ _ _ (c .before .before .before .before .pre .1 .far), steps-begin _ _ _ _ _ _, refl, c .before .before .before .before .pre .0)
 
-mul-frame-at : tie.Need-mul-frame-at Inv-loop μ-loop
-mul-frame-at c = omega (arith, c .before .before .before .before .before .before .pre .1 .asked, c .before .before .before .before .before .before .good, c .loop-test .taken)
-
 frame-at-requires : tie.Need-frame-at-requires Inv-loop μ-loop
 frame-at-requires c κs = omega (arith, c .before .before .before .before .before .before .pre .1 .asked, c .loop-test .taken)
 
@@ -43,9 +40,6 @@ take-requires c κs = c .before .before .before .before .before .before .before 
 
 answer-of-requires : tie.Need-answer-of-requires Inv-loop μ-loop
 answer-of-requires c κs = tt
-
-mul-put-answer : tie.Need-mul-put-answer Inv-loop μ-loop
-mul-put-answer c = omega (arith, c .before .before .before .before .before .before .before .before .before .before .before .before .before .before .before .pre .1 .asked, c .before .before .before .before .before .before .before .before .before .before .before .before .before .before .before .good, c .before .before .before .before .before .before .before .before .before .loop-test .taken)
 
 put-answer-requires : tie.Need-put-answer-requires Inv-loop μ-loop
 put-answer-requires c κs = omega (arith, c .before .before .before .before .before .before .before .before .before .before .before .before .before .before .before .pre .1 .fits, c .before .before .before .before .before .before .before .before .before .loop-test .taken, c .before .before .before .before .before .before .before .before .before .before .loop .inv .2)
@@ -75,14 +69,12 @@ steps-spec =
     Inv-loop
     μ-loop
     loop-holds
-    mul-frame-at
     frame-at-requires
     is-step-requires
     same-length
     returns
     take-requires
     answer-of-requires
-    mul-put-answer
     put-answer-requires
     add-steps-in-leaf
     steps-in-leaf-requires

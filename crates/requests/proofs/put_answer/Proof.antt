@@ -1,11 +1,17 @@
 -- `requests::put_answer` meets its contract.
+use mathlib.Core.Path.{ap, _∙_}
+use Prim.Native.Nat.{ℕ}
 use native.Mathlib.Omega.{arith}
 use lib.ListN.{length-set}
 use borrow.Author.Needs.{needs}
-use Rattle.requests.specs.Requests.{answerOf}
+use Rattle.meaning.specs.Frames.{encode}
+use Rattle.requests.specs.Requests.{answerOf, put}
 use Rattle.requests.proofs.Bytes.{answer-is}
 use Rattle.requests.proofs.put_answer.Statement.{statement}
 use Rattle.requests.proofs.put_answer.Tie as tie
+
+answer-place-requires : tie.Need-answer-place-requires
+answer-place-requires c κs = search needs
 
 cast-room : tie.Need-cast-room
 cast-room c = search needs
@@ -56,12 +62,13 @@ same-length : tie.Need-same-length
 same-length c = search needs
 
 returns : tie.Need-returns
-returns c = answer-is _ _ (answerOf (c .args .a)) (c .pre)
+returns c = answer-is _ _ (answerOf (c .before .before .args .a)) (omega (arith, c .before .before .pre, c .answer-place .ensures)) ∙ ap (λ (at : ℕ). put (c .before .before .args .room .now) at (encode (answerOf (c .before .before .args .a)))) (c .answer-place .ensures)
 
 pub put-answer-spec : {M : Type 1} → statement M
 put-answer-spec =
     tie.close
     (tie.spec
+    answer-place-requires
     cast-room
     add-room
     slice-write-room

@@ -27,10 +27,6 @@ abbrev μ-loop : tie.MeasureT-loop
 loop-holds : tie.Need-loop-holds Inv-loop μ-loop
 loop-holds c = begins _ _ _ (c .before .before .before .before .before .before .before .pre .runs)
 
--- src/lib.rt:180:46
-mul-frame-at : tie.Need-mul-frame-at Inv-loop μ-loop
-mul-frame-at c = omega (arith, c .before .before .before .before .before .before .before .before .before .pre .asked, c .before .before .before .before .before .before .before .before .before .good, c .loop-test .taken)
-
 -- src/lib.rt:180:13
 frame-at-requires : tie.Need-frame-at-requires Inv-loop μ-loop
 frame-at-requires c κs = omega (arith, c .before .before .before .before .before .before .before .before .before .pre .asked, c .loop-test .taken)
@@ -74,10 +70,6 @@ mul-table c = omega (arith, c .before .before .before .before .before .before .b
 -- src/lib.rt:204:9
 array-set-from-table : tie.Need-array-set-from-table Inv-loop μ-loop
 array-set-from-table c = c .before .before .before .before .before .before .before .before .before .before .before .before .before .before .before .before .before .before .before .before .before .before .before .places-of .ensures .changedBelow
-
--- src/lib.rt:211:36
-mul-put-answer : tie.Need-mul-put-answer Inv-loop μ-loop
-mul-put-answer c = omega (arith, c .before .before .before .before .before .before .before .before .before .before .before .before .before .before .before .before .before .before .before .before .before .before .before .before .before .before .before .before .before .before .before .before .before .before .before .pre .asked, c .before .before .before .before .before .before .before .before .before .before .before .before .before .before .before .before .before .before .before .before .before .before .before .before .before .before .before .before .before .before .before .before .before .before .before .good, c .before .before .before .before .before .before .before .before .before .before .before .before .before .before .before .before .before .before .before .before .before .before .before .before .before .before .loop-test .taken)
 
 -- src/lib.rt:211:9
 put-answer-requires : tie.Need-put-answer-requires Inv-loop μ-loop
@@ -142,7 +134,6 @@ run-spec =
     Inv-loop
     μ-loop
     loop-holds
-    mul-frame-at
     frame-at-requires
     places-of-requires
     mul-at-source
@@ -154,7 +145,6 @@ run-spec =
     serve-requires
     mul-table
     array-set-from-table
-    mul-put-answer
     put-answer-requires
     mul-there
     array-copy-out-there

@@ -1,5 +1,5 @@
 use borrow.Author.Tests.{eq-eqb, ne-eqb}
-use Rattle.requests.specs.Numbers.{RELEASE}
+use Rattle.meaning.specs.Limits.{RELEASE}
 use Rattle.turns.proofs.changed_place.Statement.{statement}
 use Rattle.turns.proofs.changed_place.Tie as tie
 

@@ -25,9 +25,6 @@ end-of-requires c κs = c .before .before .before .pre .1 .far
 loop-holds : tie.Need-loop-holds Inv-loop μ-loop
 loop-holds c = (row-begins _ _ _ _ (c .before .before .before .before .pre .1 .far), cells-begin _ _ _ _ _, refl, c .end-of .ensures .0)
 
-mul-frame-at : tie.Need-mul-frame-at Inv-loop μ-loop
-mul-frame-at c = omega (arith, c .before .before .before .before .before .before .pre .1 .asked, c .before .before .before .before .before .before .good, c .before .before .end-of .ensures .1, c .loop-test .taken)
-
 frame-at-requires : tie.Need-frame-at-requires Inv-loop μ-loop
 frame-at-requires c κs = omega (arith, c .before .before .before .before .before .before .pre .1 .asked, c .before .before .end-of .ensures .1, c .loop-test .taken)
 
@@ -51,9 +48,6 @@ along-requires c κs = within-before _ _ _ _ (c .before .before .before .before 
 
 cell-at-requires : tie.Need-cell-at-requires Inv-loop μ-loop
 cell-at-requires c κs = tt
-
-mul-put-answer : tie.Need-mul-put-answer Inv-loop μ-loop
-mul-put-answer c = omega (arith, c .before .before .before .before .before .before .before .before .before .before .before .before .pre .1 .asked, c .before .before .before .before .before .before .before .before .before .before .before .before .good, c .before .before .before .before .before .before .before .before .end-of .ensures .1, c .before .before .before .before .before .before .loop-test .taken)
 
 put-answer-requires : tie.Need-put-answer-requires Inv-loop μ-loop
 put-answer-requires c κs = omega (arith, c .before .before .before .before .before .before .before .before .before .before .before .before .pre .1 .fits, c .before .before .before .before .before .before .before .before .end-of .ensures .1, c .before .before .before .before .before .before .loop-test .taken, c .before .before .before .before .before .before .before .loop .inv .2)
@@ -81,7 +75,6 @@ answer-cells-spec =
     μ-loop
     end-of-requires
     loop-holds
-    mul-frame-at
     frame-at-requires
     is-step-requires
     same-length
@@ -90,7 +83,6 @@ answer-cells-spec =
     cast-along
     along-requires
     cell-at-requires
-    mul-put-answer
     put-answer-requires
     add-j
     loop-less
