@@ -26,13 +26,13 @@ use Rattle.served.specs.Served.{answeredWith, gotWith, orderedWith}
 use Rattle.served.specs.Acted.{Acted}
 use Rattle.served.specs.declared.Served.{Served}
 use Rattle.calls.specs.Walks.{acted}
-use Rattle.calls.specs.Calls.{versionOf, withWalks}
+use Rattle.calls.specs.Calls.{codeRecord, withWalks}
 use Rattle.serving.specs.Passed.{laterChecks}
 use Rattle.answering.specs.Turned.{oldIn, turned}
 use Rattle.answering.proofs.Calling.{no-charge, refuses, only-answers}
 
 -- kinds and used numbers don't matter to contents
-contents-in : (s : Nodes) (v : VersionRecord) → contentsIn (s .cells) (versionOf v) ≡ contents s v
+contents-in : (s : Nodes) (v : VersionRecord) → contentsIn (s .cells) (codeRecord v) ≡ contents s v
 unfolding contents
 contents-in s v = rows-agree (v .length) (element s (v .bits) (heightOf v) (v .root)) (elementIn (s .cells) (v .bits) (heightOf v) (v .root)) (λ i l. element-in s (v .bits) (heightOf v) (v .root) i)
 
@@ -47,7 +47,7 @@ module _ (r : Run) (f : Frame) where
   told x = acted (r .store) (oldIn r f) (record { number = x .number; fresh = x .fresh; value = x .value })
 
   item-turns : (v : VersionRecord) (i : ℕ) (d : model.Served) (b : Bool) → (b ≡ true → v .length ≤ i) → (b ≡ false → i < v .length) → d ≡ answers r (itemAt r v i)
-      → respond (cond b 8 0) r d ≡ turned r f (withWalks (told (gotWith (got (r .store .nodes .cells) (versionOf v) i) (r .store .free) (versionOf (oldIn r f)))) (r .walks))
+      → respond (cond b 8 0) r d ≡ turned r f (withWalks (told (gotWith (got (r .store .nodes .cells) (codeRecord v) i) (r .store .free) (codeRecord (oldIn r f)))) (r .walks))
   unfolding got refused itemAt
   item-turns v i d true out within h = rw (le-ltb i (v .length) (out refl)) (refuses r f d 7)
   item-turns v i d false out within h =
@@ -56,14 +56,14 @@ module _ (r : Run) (f : Frame) where
       (h ∙ ap (answers r) (sym (element-in (r .store .nodes) (v .bits) (heightOf v) (v .root) i))))
 
   pub get-turns : respond (firstOf (laterChecks get (supplyIn r) f (seenIn r f))) r (done get r f)
-      ≡ turned r f (withWalks (told (gotWith (got (r .store .nodes .cells) (versionOf (sourceIn r f)) (f .index)) (r .store .free) (versionOf (oldIn r f)))) (r .walks))
+      ≡ turned r f (withWalks (told (gotWith (got (r .store .nodes .cells) (codeRecord (sourceIn r f)) (f .index)) (r .store .free) (codeRecord (oldIn r f)))) (r .walks))
   unfolding laterChecks findChecks nodesCheck _if_ firstOf uses anyone anyField faults noFault nothingThere isFull cost priced plain isShort seenIn done
   get-turns =
       let n : ℕ = sourceIn r f .length in
       rw (no-charge (r .store .free)) (item-turns (sourceIn r f) (f .index) _ (leb n (f .index)) (leb-true n (f .index)) (leb-false n (f .index)) refl)
 
   pub first-turns : respond (firstOf (laterChecks first (supplyIn r) f (seenIn r f))) r (done first r f)
-      ≡ turned r f (withWalks (told (gotWith (got (r .store .nodes .cells) (versionOf (sourceIn r f)) 0) (r .store .free) (versionOf (oldIn r f)))) (r .walks))
+      ≡ turned r f (withWalks (told (gotWith (got (r .store .nodes .cells) (codeRecord (sourceIn r f)) 0) (r .store .free) (codeRecord (oldIn r f)))) (r .walks))
   unfolding laterChecks findChecks nodesCheck _if_ firstOf uses anyone anyField faults noFault nothingThere isFull cost priced plain isShort seenIn done
   first-turns =
       let n : ℕ = sourceIn r f .length in
@@ -71,7 +71,7 @@ module _ (r : Run) (f : Frame) where
       (item-turns (sourceIn r f) 0 _ (eqb n 0) (λ e. omega (arith, eqb-true n 0 e)) (λ e. let some : n ≢ 0 = eqb-false n 0 e in omega arith) refl)
 
   pub last-turns : respond (firstOf (laterChecks last (supplyIn r) f (seenIn r f))) r (done last r f)
-      ≡ turned r f (withWalks (told (gotWith (got (r .store .nodes .cells) (versionOf (sourceIn r f)) (sourceIn r f .length - 1)) (r .store .free) (versionOf (oldIn r f)))) (r .walks))
+      ≡ turned r f (withWalks (told (gotWith (got (r .store .nodes .cells) (codeRecord (sourceIn r f)) (sourceIn r f .length - 1)) (r .store .free) (codeRecord (oldIn r f)))) (r .walks))
   unfolding laterChecks findChecks nodesCheck _if_ firstOf uses anyone anyField faults noFault nothingThere isFull cost priced plain isShort seenIn done
   last-turns =
       let n : ℕ = sourceIn r f .length in
@@ -79,23 +79,23 @@ module _ (r : Run) (f : Frame) where
       (item-turns (sourceIn r f) (n - 1) _ (eqb n 0) (λ e. omega (arith, eqb-true n 0 e)) (λ e. let some : n ≢ 0 = eqb-false n 0 e in omega arith) refl)
 
   pub len-turns : respond (firstOf (laterChecks len (supplyIn r) f (seenIn r f))) r (done len r f)
-      ≡ turned r f (withWalks (told (answeredWith (sourceIn r f .length) (r .store .free) (versionOf (oldIn r f)))) (r .walks))
+      ≡ turned r f (withWalks (told (answeredWith (sourceIn r f .length) (r .store .free) (codeRecord (oldIn r f)))) (r .walks))
   unfolding laterChecks findChecks nodesCheck _if_ firstOf uses anyone anyField faults noFault nothingThere isFull cost priced plain isShort seenIn done
   len-turns = rw (no-charge (r .store .free)) (only-answers r f _ (sourceIn r f .length) refl)
 
   pub free-nodes-turns : respond (firstOf (laterChecks free-nodes (supplyIn r) f (seenIn r f))) r (done free-nodes r f)
-      ≡ turned r f (withWalks (told (answeredWith (r .store .free) (r .store .free) (versionOf (oldIn r f)))) (r .walks))
+      ≡ turned r f (withWalks (told (answeredWith (r .store .free) (r .store .free) (codeRecord (oldIn r f)))) (r .walks))
   unfolding laterChecks findChecks nodesCheck _if_ firstOf uses hostAlone anyField faults noFault nothingThere isFull cost priced plain isShort seenIn done
   free-nodes-turns = rw (no-charge (r .store .free)) (only-answers r f _ (r .store .free) refl)
 
   pub compare-turns : respond (firstOf (laterChecks compare (supplyIn r) f (seenIn r f))) r (done compare r f)
       ≡ turned r f
-      (withWalks (told (orderedWith (ordering (r .store .nodes .cells) (versionOf (sourceIn r f)) (versionOf (targetIn r f))) (r .store .free) (versionOf (oldIn r f)))) (r .walks))
+      (withWalks (told (orderedWith (ordering (r .store .nodes .cells) (codeRecord (sourceIn r f)) (codeRecord (targetIn r f))) (r .store .free) (codeRecord (oldIn r f)))) (r .walks))
   unfolding laterChecks findChecks nodesCheck _if_ firstOf uses anyone anyField faults noFault nothingThere isFull cost priced plain isShort seenIn done ordering
   compare-turns =
       rw (
         no-charge (r .store .free),
-        sign-again (order (contentsIn (r .store .nodes .cells) (versionOf (sourceIn r f))) (contentsIn (r .store .nodes .cells) (versionOf (targetIn r f)))),
+        sign-again (order (contentsIn (r .store .nodes .cells) (codeRecord (sourceIn r f))) (contentsIn (r .store .nodes .cells) (codeRecord (targetIn r f)))),
         contents-in (r .store .nodes) (sourceIn r f),
         contents-in (r .store .nodes) (targetIn r f),
       )

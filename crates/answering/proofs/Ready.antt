@@ -15,7 +15,7 @@ use Rattle.meaning.specs.Frames.{Frame}
 use Rattle.meaning.specs.Operations.{Op, Role, unused, source, filled, walked, opened, owner, bits, position, element, operations, unknown, opOf, anyone, uses, ownerOr, giver, taker}
 use Rattle.shape.specs.Legal.{Legal}
 use Rattle.sweep.specs.Ready.{Releasable}
-use Rattle.walk.specs.Walk.{numberAt, versionIn, Walkable}
+use Rattle.walk.specs.Walk.{numberAt, versionOfWalk, Walkable}
 use Rattle.frames.specs.Run.{Run, sourceIn, targetIn, walkPlace, walkIn, seenIn}
 use Rattle.edits.specs.Edits.{Able}
 use Rattle.calls.specs.Reads.{isSource, sourced}
@@ -126,8 +126,8 @@ module _ (r : Run) (f : Frame) (k : Runs r) where
       used-open : Open (r .store .nodes) (walkRecord (r .walks) (usedPlace f))
       used-open = rw (used-is, ← walk-here r (giver f) (f .slot) (giver-below f _ p) (walked-within (opOf f) r f k p (w .slot))) (walked-open (opOf f) r f k p (w .slot))
 
-      used-releasable : Releasable (r .store) (versionIn (r .walks .numbers) (usedPlace f) .root)
-      unfolding versionIn walkRecord
+      used-releasable : Releasable (r .store) (versionOfWalk (r .walks .numbers) (usedPlace f) .root)
+      unfolding versionOfWalk walkRecord
       used-releasable = root-releasable (r .store) (r .versions) (r .walks) k (walkRecord (r .walks) (usedPlace f) .version) (used-open .version)
 
       used-walkable : Walkable (r .walks .numbers) (usedPlace f)

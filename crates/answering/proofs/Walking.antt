@@ -19,7 +19,7 @@ use Rattle.lookup.specs.declared.Got.the-variants.{Element, Nothing}
 use Rattle.store.specs.Store.{raised}
 use Rattle.sweep.specs.Sweep as sweep
 use Rattle.levels.specs.Levels.{Taken}
-use Rattle.walk.specs.Walk.{stepped, versionIn, isEnded, takenAt, takenOf, takenBy}
+use Rattle.walk.specs.Walk.{stepped, versionOfWalk, isEnded, takenAt, takenOf, takenBy}
 use Rattle.walk.specs.Walk as walk
 use Rattle.frames.specs.Run.{Run, walkPlace, sourceIn, walkedIn, seenIn, supplyIn}
 use Rattle.frames.specs.Serve.{run, answers, opens, gotOf, takes, closes, done, freshIn, respond}
@@ -45,13 +45,13 @@ module _ (r : Run) (f : Frame) where
 
     -- ---- closing
 
-    root-is : walkedIn r f .version .root ≡ versionIn (r .walks .numbers) place .root
-    unfolding versionIn walkRecord
+    root-is : walkedIn r f .version .root ≡ versionOfWalk (r .walks .numbers) place .root
+    unfolding versionOfWalk walkRecord
     root-is = ap (λ (w : WalkRecord). w .version .root) here
 
     pub close-turns : (k : Runs r) → taker f < parties → giver f ≡ taker f → Entered close-walk f (seenIn r f .standing)
         → respond (firstOf (laterChecks close-walk (supplyIn r) f (seenIn r f))) r (done close-walk r f)
-        ≡ turned r f (withWalks (acted (sweep.release (r .store) (versionIn (r .walks .numbers) (usedPlace f) .root)) (oldIn r f) (valued 0)) (walk.closed (r .walks) (usedPlace f)))
+        ≡ turned r f (withWalks (acted (sweep.release (r .store) (versionOfWalk (r .walks .numbers) (usedPlace f) .root)) (oldIn r f) (valued 0)) (walk.closed (r .walks) (usedPlace f)))
     unfolding laterChecks findChecks nodesCheck _if_ firstOf uses anyone anyField faults noFault nothingThere isFull cost priced plain isShort seenIn done respond closes
     close-turns k below own p =
         let none : freshIn r (closes r f .run) ≡ 0 = close-does r f k below own (record { entered = p; bits = refl; there = refl; room = refl; nodes = no-charge (r .store .free) }) .fresh in

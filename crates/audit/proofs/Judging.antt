@@ -12,12 +12,12 @@ use Rattle.audit_model.specs.Made.{kindsOf, walkVersion, lentOf}
 use Rattle.audit_model.specs.Descent.{answer}
 use Rattle.audit_model.specs.Records.{allTo}
 use Rattle.audit_model.specs.Tallies.{raiseTo, rootsTally, nodesTally}
-use Rattle.audit_model.specs.Audit.{Blank, versionOf, versionsOk, walksOk, recordsOk, orderOk, tallies, nodeOk, nodesOk, restOk}
+use Rattle.audit_model.specs.Audit.{Blank, recordAt, versionsOk, walksOk, recordsOk, orderOk, tallies, nodeOk, nodesOk, restOk}
 use Rattle.audit_model.proofs.Tests.{true≢false}
 use Rattle.audit_model.proofs.Decides.{rest-sound, rest-complete}
 use Rattle.audit_model.proofs.Sizes.{lengths, lengths-unfit, blank-zeros}
 use Rattle.audit_tally.specs.Under.{Under}
-use Rattle.audit.specs.Audited.{Judged, Ready, Small}
+use Rattle.audit.specs.Audited.{Judged, Cleared, Small}
 
 -- ---- lengths
 
@@ -40,14 +40,14 @@ pub blank-under : (n : ℕ) (z t : List ℕ) → Blank n z → t ≡ z → Under
 unfolding Under
 blank-under n z t b e i = rw e (omega (arith, b .zeros i))
 
-pub ready-zeros : (s : Lent) (n : ℕ) → Small s n → Ready s (replicate n 0) (replicate n 0)
+pub ready-zeros : (s : Lent) (n : ℕ) → Small s n → Cleared s (replicate n 0) (replicate n 0)
 ready-zeros s n r = record { sizes = r .sizes; codes = blank-zeros n (size s) (r .room); tallies = refl }
 
 free-same : (s : Nodes) → freeNodes (kindsOf (s .kinds)) ≡ freeNodes s
 unfolding freeNodes isFree
 free-same s = refl
 
-module _ (s : Lent) (z y : List ℕ) (ready : Ready s z y) where
+module _ (s : Lent) (z y : List ℕ) (ready : Cleared s z y) where
   rest-fails : (w : Bool) (f : ℕ) → restOk s z ≡ false → (w ≡ false) × (f ≡ 0) → Judged s w f
   rest-fails w f e j = refused s w f (λ W. true≢false (sym (rest-complete s (ready .sizes) z (ready .codes) W) ∙ e)) j
 
@@ -71,7 +71,7 @@ module _ (s : Lent) (z y : List ℕ) (ready : Ready s z y) where
   by-order o t n i w f e q p r x j = rest-fails w f (rest-is o t e ∙ rw (q, ← (order-is n i p r), x)) j
 
   tallied : (n : ℕ) (t₁ t₂ : List ℕ) → n ≡ freeNodes (kindsOf (s .nodes .kinds)) → t₁ ≡ raiseTo n (λ j. getD (s .order) j 0) y
-      → t₂ ≡ nodesTally (s .nodes) (size s) (rootsTally walkCount (walkVersion (s .walks .numbers)) (rootsTally versionCount (versionOf (s .versions)) t₁))
+      → t₂ ≡ nodesTally (s .nodes) (size s) (rootsTally walkCount (walkVersion (s .walks .numbers)) (rootsTally versionCount (recordAt (s .versions)) t₁))
       → t₂ ≡ tallies s z
   unfolding tallies walkRecord
   tallied n t₁ t₂ p q r =
@@ -82,7 +82,7 @@ module _ (s : Lent) (z y : List ℕ) (ready : Ready s z y) where
   pub by-nodes : (o : Bool) (t : List ℕ) (n : ℕ) (i : Bool) (t₁ t₂ : List ℕ) (r w : Bool) (f : ℕ) → answer o t ≡ recordsOk part z → o ≡ true
       → n ≡ freeNodes (kindsOf (s .nodes .kinds)) → i ≡ allTo n (λ j. isFree (kindsOf (s .nodes .kinds)) (getD (s .order) j 0)) → i ≡ true
       → t₁ ≡ raiseTo n (λ j. getD (s .order) j 0) y
-      → t₂ ≡ nodesTally (s .nodes) (size s) (rootsTally walkCount (walkVersion (s .walks .numbers)) (rootsTally versionCount (versionOf (s .versions)) t₁))
+      → t₂ ≡ nodesTally (s .nodes) (size s) (rootsTally walkCount (walkVersion (s .walks .numbers)) (rootsTally versionCount (recordAt (s .versions)) t₁))
       → r ≡ allTo (size s) (nodeOk (s .nodes) (s .counts) t t₂) → (w ≡ r) × (f ≡ cond r n 0) → Judged s w f
   by-nodes o t n i t₁ t₂ r w f e q p a x b c d j =
       let T : t₂ ≡ tallies s z = tallied n t₁ t₂ p b c in

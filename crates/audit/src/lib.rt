@@ -2,7 +2,8 @@
 ghost use mathlib.Core.Path.{_≡_};
 ghost use mathlib.Core.Bool.{cond};
 ghost use Rattle.meaning.specs.Limits.{maxNodes};
-ghost use Rattle.audit.specs.Audited.{lentOf, Judged, Ready, Small};
+ghost use Rattle.audit_reads.specs.Slices.{lentFrom};
+ghost use Rattle.audit.specs.Audited.{Judged, Cleared, Small};
 
 pub struct Audited {
     pub ok: bool,
@@ -41,8 +42,8 @@ pub fn audit_with(
     codes: &mut [u32],
     tallies: &mut [u32],
 ) -> Audited
-    requires { ⌜ Ready (lentOf (now kinds) (now used) (now counts) (now cells) (now order) versions (now «walk_numbers») (now «walk_nodes») (now «walk_indices»)) (now codes) (now tallies) ⌝ }
-    ensures { λ r. ⌜ Judged (lentOf (now (kinds .entry)) (now (used .entry)) (now (counts .entry)) (now (cells .entry)) (now (order .entry)) versions
+    requires { ⌜ Cleared (lentFrom (now kinds) (now used) (now counts) (now cells) (now order) versions (now «walk_numbers») (now «walk_nodes») (now «walk_indices»)) (now codes) (now tallies) ⌝ }
+    ensures { λ r. ⌜ Judged (lentFrom (now (kinds .entry)) (now (used .entry)) (now (counts .entry)) (now (cells .entry)) (now (order .entry)) versions
         (now («walk_numbers» .entry)) (now («walk_nodes» .entry)) (now («walk_indices» .entry))) (r .ok) (r .free) ⌝ }
 {
     let right = audit_records::records_ok(
@@ -79,8 +80,8 @@ pub fn audit_small(
     walk_nodes: &[u32],
     walk_indices: &[i32],
 ) -> Audited
-    requires { ⌜ Small (lentOf (now kinds) (now used) (now counts) (now cells) (now order) versions (now «walk_numbers») (now «walk_nodes») (now «walk_indices»)) 256 ⌝ }
-    ensures { λ r. ⌜ Judged (lentOf (now (kinds .entry)) (now (used .entry)) (now (counts .entry)) (now (cells .entry)) (now (order .entry)) versions
+    requires { ⌜ Small (lentFrom (now kinds) (now used) (now counts) (now cells) (now order) versions (now «walk_numbers») (now «walk_nodes») (now «walk_indices»)) 256 ⌝ }
+    ensures { λ r. ⌜ Judged (lentFrom (now (kinds .entry)) (now (used .entry)) (now (counts .entry)) (now (cells .entry)) (now (order .entry)) versions
         (now («walk_numbers» .entry)) (now («walk_nodes» .entry)) (now («walk_indices» .entry))) (r .ok) (r .free) ⌝ }
 {
     let mut codes = [0u32; SMALL];
@@ -111,8 +112,8 @@ pub fn audit_medium(
     walk_nodes: &[u32],
     walk_indices: &[i32],
 ) -> Audited
-    requires { ⌜ Small (lentOf (now kinds) (now used) (now counts) (now cells) (now order) versions (now «walk_numbers») (now «walk_nodes») (now «walk_indices»)) 4096 ⌝ }
-    ensures { λ r. ⌜ Judged (lentOf (now (kinds .entry)) (now (used .entry)) (now (counts .entry)) (now (cells .entry)) (now (order .entry)) versions
+    requires { ⌜ Small (lentFrom (now kinds) (now used) (now counts) (now cells) (now order) versions (now «walk_numbers») (now «walk_nodes») (now «walk_indices»)) 4096 ⌝ }
+    ensures { λ r. ⌜ Judged (lentFrom (now (kinds .entry)) (now (used .entry)) (now (counts .entry)) (now (cells .entry)) (now (order .entry)) versions
         (now («walk_numbers» .entry)) (now («walk_nodes» .entry)) (now («walk_indices» .entry))) (r .ok) (r .free) ⌝ }
 {
     let mut codes = [0u32; MEDIUM];
@@ -143,8 +144,8 @@ pub fn audit_large(
     walk_nodes: &[u32],
     walk_indices: &[i32],
 ) -> Audited
-    requires { ⌜ Small (lentOf (now kinds) (now used) (now counts) (now cells) (now order) versions (now «walk_numbers») (now «walk_nodes») (now «walk_indices»)) maxNodes ⌝ }
-    ensures { λ r. ⌜ Judged (lentOf (now (kinds .entry)) (now (used .entry)) (now (counts .entry)) (now (cells .entry)) (now (order .entry)) versions
+    requires { ⌜ Small (lentFrom (now kinds) (now used) (now counts) (now cells) (now order) versions (now «walk_numbers») (now «walk_nodes») (now «walk_indices»)) maxNodes ⌝ }
+    ensures { λ r. ⌜ Judged (lentFrom (now (kinds .entry)) (now (used .entry)) (now (counts .entry)) (now (cells .entry)) (now (order .entry)) versions
         (now («walk_numbers» .entry)) (now («walk_nodes» .entry)) (now («walk_indices» .entry))) (r .ok) (r .free) ⌝ }
 {
     let mut codes = [0u32; limits::MAX_NODES];
@@ -176,7 +177,7 @@ pub fn audit(
     walk_nodes: &[u32],
     walk_indices: &[i32],
 ) -> Audited
-    ensures { λ r. ⌜ Judged (lentOf (now (kinds .entry)) (now (used .entry)) (now (counts .entry)) (now (cells .entry)) (now (order .entry)) versions
+    ensures { λ r. ⌜ Judged (lentFrom (now (kinds .entry)) (now (used .entry)) (now (counts .entry)) (now (cells .entry)) (now (order .entry)) versions
         (now («walk_numbers» .entry)) (now («walk_nodes» .entry)) (now («walk_indices» .entry))) (r .ok) (r .free) ⌝ }
 {
     let n = kinds.len();

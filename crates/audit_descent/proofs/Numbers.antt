@@ -12,7 +12,7 @@ use Rattle.meaning.specs.Shape.{degree}
 use Rattle.meaning.proofs.Booleans.{both-true}
 use Rattle.shape.proofs.Powers.{degree-most, degree-power, one-shifts}
 use Rattle.audit_model.specs.Descent.{leafOk, branchOk}
-use Rattle.audit_descent.specs.Ready.{Ready}
+use Rattle.audit_descent.specs.Descendable.{Descendable}
 
 pub capacity-is : (b h : ℕ) → h * b < lengthBits → let r = (1 * 2 ^ (h * b)) % 2 ^ wordWidth in (r ≡ degree b ^ h) × (r ≤ maxLength)
 capacity-is b h l =
@@ -40,11 +40,11 @@ pub branch-tested : (k u b c m d : ℕ) → b ≤ maxBits → d ≡ degree b
 unfolding branchOk
 branch-tested k u b c m d l e = rw e (refl, λ q. branch-few k u b c m l q)
 
-pub ready-low : (b h m : ℕ) → Ready b h m → h < walkLevels
+pub ready-low : (b h m : ℕ) → Descendable b h m → h < walkLevels
 ready-low b h m r = omega (arith, r .shift, mul-le-mul-left h (r .bits .least))
 
 -- a child's descent is ready where its parent's is
-pub ready-below : (b h m c i m′ : ℕ) → Ready b h m → m′ ≡ min c (m - i * c) → Ready b (h - 1) m′
+pub ready-below : (b h m c i m′ : ℕ) → Descendable b h m → m′ ≡ min c (m - i * c) → Descendable b (h - 1) m′
 ready-below b h m c i m′ r q =
     let below : (h - 1) * b ≤ h * b = mul-le-mul-right b (omega arith) in
     record { bits = r .bits; shift = omega (arith, r .shift); size = omega (arith, r .size) }

@@ -7,7 +7,7 @@ ghost use Rattle.meaning.specs.Shape.{degree};
 ghost use Rattle.meaning.specs.WellFormed.{LegalBits};
 ghost use Rattle.audit_model.specs.Made.{nodesOf};
 ghost use Rattle.audit_model.specs.Descent.{answer, pick, marked, leafOk, branchOk, visit};
-ghost use Rattle.audit_descent.specs.Ready.{Ready};
+ghost use Rattle.audit_descent.specs.Descendable.{Descendable};
 
 // What a child of a node of that height holds when it is full.
 pub fn capacity(bits: u32, height: u32) -> u32
@@ -75,7 +75,7 @@ pub fn descend(
     size: u32,
     node: u32,
 ) -> bool
-    requires { ⌜ Ready bits height size ⌝ }
+    requires { ⌜ Descendable bits height size ⌝ }
     ensures { λ r. ⌜ answer r (now (codes .exit)) ≡ visit (nodesOf (now (kinds .entry)) (now (used .entry)) (now (cells .entry))) bits height size node (now (codes .entry)) ⌝ }
 {
     let n = node as usize;

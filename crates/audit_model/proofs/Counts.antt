@@ -18,7 +18,7 @@ use Rattle.meaning.proofs.Lists.{many-le, occurs-append}
 use Rattle.meaning.proofs.Sums.{occurs-take}
 use Rattle.meaning.proofs.Rows.{rows-map}
 use Rattle.audit_model.specs.Tallies.{raise, raiseTo, raiseRoot, rootsTally, nodeTally, nodesTally}
-use Rattle.audit_model.specs.Audit.{Blank, versionOf, tallies}
+use Rattle.audit_model.specs.Audit.{Blank, recordAt, tallies}
 use Rattle.audit_model.proofs.Lists.{many-next, rows-all, rootLink, roots-next}
 
 -- t′ is t with g n more at each n
@@ -73,10 +73,10 @@ nodes-raised s (suc k) t = then-raised (λ n. refl) (nodes-raised s k t) (to-rai
 -- ---- all of it
 
 -- what slots and walks link, by their numbers
-pub roots-are : (s : Lent) → SizesFit s → roots s ≡ liveRoots (rows versionCount (versionOf (s .versions))) ++ liveRoots (rows walkCount (λ i. walkRecord (s .walks) i .version))
+pub roots-are : (s : Lent) → SizesFit s → roots s ≡ liveRoots (rows versionCount (recordAt (s .versions))) ++ liveRoots (rows walkCount (λ i. walkRecord (s .walks) i .version))
 unfolding roots walkRecords
 roots-are s f =
-    let v : rows versionCount (versionOf (s .versions)) ≡ s .versions = ap (λ (k : ℕ). rows k (versionOf (s .versions))) (sym (f .versions)) ∙ rows-all emptyRecord (s .versions) in
+    let v : rows versionCount (recordAt (s .versions)) ≡ s .versions = ap (λ (k : ℕ). rows k (recordAt (s .versions))) (sym (f .versions)) ∙ rows-all emptyRecord (s .versions) in
     let w : map (λ (r : WalkRecord). r .version) (rows walkCount (walkRecord (s .walks))) ≡ rows walkCount (λ i. walkRecord (s .walks) i .version) =
     rows-map (λ (r : WalkRecord). r .version) walkCount (walkRecord (s .walks)) in
     ap₂ (λ (a b : List VersionRecord). liveRoots a ++ liveRoots b) (sym v) w
@@ -93,16 +93,16 @@ pub tallies-are : (s : Lent) → SizesFit s → (z : List ℕ) → Blank (size s
 unfolding tallies links
 tallies-are s f z b n l =
     let t₁ : List ℕ = raiseTo (freeNodes (s .nodes)) (λ j. getD (s .order) j 0) z in
-    let t₂ : List ℕ = rootsTally versionCount (versionOf (s .versions)) t₁ in
+    let t₂ : List ℕ = rootsTally versionCount (recordAt (s .versions)) t₁ in
     let t₃ : List ℕ = rootsTally walkCount (λ i. walkRecord (s .walks) i .version) t₂ in
     let p₁ = to-raised (freeNodes (s .nodes)) (λ j. getD (s .order) j 0) z in
-    let p₂ = roots-raised versionCount (versionOf (s .versions)) t₁ in
+    let p₂ = roots-raised versionCount (recordAt (s .versions)) t₁ in
     let p₃ = roots-raised walkCount (λ i. walkRecord (s .walks) i .version) t₂ in
     let p₄ = nodes-raised (s .nodes) (size s) t₃ in
     let l₁ : n < length z = omega (arith, b .room) in
     let l₂ : n < length t₁ = omega (arith, p₁ .same) in
     let l₃ : n < length t₂ = omega (arith, p₂ .same) in
     let l₄ : n < length t₃ = omega (arith, p₃ .same) in
-    let r : occurrences n (roots s) ≡ occurrences n (liveRoots (rows versionCount (versionOf (s .versions)))) + occurrences n (liveRoots (rows walkCount (λ i. walkRecord (s .walks) i .version))) =
+    let r : occurrences n (roots s) ≡ occurrences n (liveRoots (rows versionCount (recordAt (s .versions)))) + occurrences n (liveRoots (rows walkCount (λ i. walkRecord (s .walks) i .version))) =
     ap (occurrences n) (roots-are s f) ∙ occurs-append n _ _ in
     omega (arith, b .zeros n, order-occurs s f n, r, p₁ .more n l₁, p₂ .more n l₂, p₃ .more n l₃, p₄ .more n l₄)

@@ -14,7 +14,7 @@ use Rattle.meaning.specs.Links.{liveRoots, roots, Reached, byRoot, byCell}
 use Rattle.meaning.specs.WellFormed.{LegalVersion, LegalWalk, SizesFit}
 use Rattle.meaning.proofs.Lists.{occurs-append, each-getD, each-row, each-rows}
 use Rattle.meaning.proofs.Nodes.{child-linked, links-cell}
-use Rattle.audit_model.specs.Audit.{Blank, versionOf, versionsOk, walksOk, recordsOk}
+use Rattle.audit_model.specs.Audit.{Blank, recordAt, versionsOk, walksOk, recordsOk}
 use Rattle.audit_model.proofs.Done.{Good, Done, done-then, done-through}
 use Rattle.audit_model.proofs.Visits.{code-some}
 use Rattle.audit_model.proofs.Slots.{Root, version-done, walk-done}
@@ -29,22 +29,22 @@ module _ (s : Lent) (fit : SizesFit s) where
   by-cell n i p k l = byCell p (child-linked (s .nodes) n i k l)
 
   split : (n : ℕ) → occurrences n (roots s)
-      ≡ occurrences n (liveRoots (rows versionCount (versionOf (s .versions)))) + occurrences n (liveRoots (rows walkCount (λ i. walkRecord (s .walks) i .version)))
+      ≡ occurrences n (liveRoots (rows versionCount (recordAt (s .versions)))) + occurrences n (liveRoots (rows walkCount (λ i. walkRecord (s .walks) i .version)))
   split n = ap (occurrences n) (roots-are s fit) ∙ occurs-append n _ _
 
-  version-root : (i : ℕ) → i < versionCount → versionOf (s .versions) i .live ≡ 1 → Reached (s .nodes) (roots s) (versionOf (s .versions) i .root)
-  version-root i l e = byRoot {n = versionOf (s .versions) i .root} (omega (arith, split (versionOf (s .versions) i .root), root-occurs versionCount (versionOf (s .versions)) i l e))
+  version-root : (i : ℕ) → i < versionCount → recordAt (s .versions) i .live ≡ 1 → Reached (s .nodes) (roots s) (recordAt (s .versions) i .root)
+  version-root i l e = byRoot {n = recordAt (s .versions) i .root} (omega (arith, split (recordAt (s .versions) i .root), root-occurs versionCount (recordAt (s .versions)) i l e))
 
   walk-root : (i : ℕ) → i < walkCount → walkRecord (s .walks) i .version .live ≡ 1 → Reached (s .nodes) (roots s) (walkRecord (s .walks) i .version .root)
   walk-root i l e =
       byRoot {n = walkRecord (s .walks) i .version .root} (omega (arith, split (walkRecord (s .walks) i .version .root), root-occurs walkCount (λ i. walkRecord (s .walks) i .version) i l e))
 
   abbrev pub Legal : Type 0
-  Legal = ((i : ℕ) → i < versionCount → LegalVersion (s .nodes) (versionOf (s .versions) i)) × ((i : ℕ) → i < walkCount → LegalWalk (s .nodes) (walkRecord (s .walks) i))
+  Legal = ((i : ℕ) → i < versionCount → LegalVersion (s .nodes) (recordAt (s .versions) i)) × ((i : ℕ) → i < walkCount → LegalWalk (s .nodes) (walkRecord (s .walks) i))
 
   abbrev AnyRoot : ℕ → Type 0
   AnyRoot n =
-      ((i : ℕ) × (i < versionCount) × Root (versionOf (s .versions) i) n) ⊎ ((i : ℕ) × (i < walkCount) × Root (walkRecord (s .walks) i .version) n)
+      ((i : ℕ) × (i < versionCount) × Root (recordAt (s .versions) i) n) ⊎ ((i : ℕ) × (i < walkCount) × Root (walkRecord (s .walks) i .version) n)
 
   -- nothing is marked at the start
   blank-good : (z : List ℕ) → Blank (size s) z → Good (s .nodes) (Reached (s .nodes) (roots s)) z
@@ -59,17 +59,17 @@ module _ (s : Lent) (fit : SizesFit s) where
   unfolding recordsOk versionsOk walksOk
   records-done z b =
       done-then (s .nodes) (Reached (s .nodes) (roots s)) z _ _
-      (done-through (s .nodes) (Reached (s .nodes) (roots s)) (λ i. LegalVersion (s .nodes) (versionOf (s .versions) i)) (λ i. Root (versionOf (s .versions) i)) versionCount _ z (blank-good z b)
-      (λ i u l g. version-done (s .nodes) (Reached (s .nodes) (roots s)) by-cell (versionOf (s .versions) i) u (version-root i l) g))
+      (done-through (s .nodes) (Reached (s .nodes) (roots s)) (λ i. LegalVersion (s .nodes) (recordAt (s .versions) i)) (λ i. Root (recordAt (s .versions) i)) versionCount _ z (blank-good z b)
+      (λ i u l g. version-done (s .nodes) (Reached (s .nodes) (roots s)) by-cell (recordAt (s .versions) i) u (version-root i l) g))
       (λ u _ g _.
       done-through (s .nodes) (Reached (s .nodes) (roots s)) (λ i. LegalWalk (s .nodes) (walkRecord (s .walks) i)) (λ i. Root (walkRecord (s .walks) i .version)) walkCount _ u g
       (λ i u′ l g′. walk-done (s .nodes) (Reached (s .nodes) (roots s)) by-cell (s .walks) i u′ (walk-root i l) g′))
 
   any-root : (n : ℕ) → 1 ≤ occurrences n (roots s) → AnyRoot n
-  any-root n l = by (decLt 0 (occurrences n (liveRoots (rows versionCount (versionOf (s .versions))))))
+  any-root n l = by (decLt 0 (occurrences n (liveRoots (rows versionCount (recordAt (s .versions))))))
     where
-      by : Dec (0 < occurrences n (liveRoots (rows versionCount (versionOf (s .versions))))) → AnyRoot n
-      by (yes q) = inl (occurs-root n versionCount (versionOf (s .versions)) q)
+      by : Dec (0 < occurrences n (liveRoots (rows versionCount (recordAt (s .versions))))) → AnyRoot n
+      by (yes q) = inl (occurs-root n versionCount (recordAt (s .versions)) q)
       by (no f) = inr (occurs-root n walkCount (λ i. walkRecord (s .walks) i .version) (omega (arith, split n)))
 
   pub reached-marked : (z : List ℕ) → Blank (size s) z → recordsOk s z .ok ≡ true → (n : ℕ) → Reached (s .nodes) (roots s) n → getD (recordsOk s z .codes) n 0 ≢ 0

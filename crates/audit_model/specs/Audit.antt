@@ -31,11 +31,11 @@ sizesOk s =
 
 -- ---- the records
 
-abbrev pub versionOf : List VersionRecord → (i : ℕ) → VersionRecord
-versionOf vs i = getD vs i emptyRecord
+abbrev pub recordAt : List VersionRecord → (i : ℕ) → VersionRecord
+recordAt vs i = getD vs i emptyRecord
 
 unfoldable pub versionsOk : Lent → List ℕ → Answer
-versionsOk s t = through versionCount (λ i. versionStep (s .nodes) (versionOf (s .versions) i)) t
+versionsOk s t = through versionCount (λ i. versionStep (s .nodes) (recordAt (s .versions) i)) t
 
 unfoldable pub walksOk : Lent → List ℕ → Answer
 walksOk s t = through walkCount (walkStep (s .nodes) (s .walks)) t
@@ -52,7 +52,7 @@ unfoldable pub tallies : Lent → List ℕ → List ℕ
 tallies s z =
     nodesTally (s .nodes) (size s)
     (rootsTally walkCount (λ i. walkRecord (s .walks) i .version)
-    (rootsTally versionCount (versionOf (s .versions))
+    (rootsTally versionCount (recordAt (s .versions))
     (raiseTo (freeNodes (s .nodes)) (λ j. getD (s .order) j 0) z)))
 
 -- ---- the comparison

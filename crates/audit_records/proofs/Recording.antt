@@ -19,11 +19,11 @@ use Rattle.shape.proofs.Capacity.{height-shift}
 use Rattle.audit_model.specs.Made.{walksOf, lentOf, walkVersion}
 use Rattle.audit_model.specs.Descent.{Answer, answer, pick, goOn, through, visit}
 use Rattle.audit_model.specs.Records.{emptyOk, legalOk, versionStep, walkAgrees, walkStep}
-use Rattle.audit_model.specs.Audit.{versionOf, versionsOk, walksOk, recordsOk}
+use Rattle.audit_model.specs.Audit.{recordAt, versionsOk, walksOk, recordsOk}
 use Rattle.audit_model.proofs.Tests.{true≢false}
 use Rattle.audit_model.proofs.Slots.{legal-is}
 use Rattle.audit_model.proofs.Steps.{pick-yes, pick-no}
-use Rattle.audit_descent.specs.Ready.{Ready}
+use Rattle.audit_descent.specs.Descendable.{Descendable}
 use Rattle.audit_walks.specs.Walkable.{Found}
 
 -- the test of a live record, as the code has it
@@ -37,7 +37,7 @@ legal-test v most e = rw e
 pub legal-numbers : (v : VersionRecord) (most : ℕ) → most ≡ maxLength → legalTest (v .live) (v .bits) (v .length) most ≡ true → Legal (v .bits) (v .length)
 legal-numbers v most e q = legal-is v (sym (legal-test v most e) ∙ q) .1
 
-pub ready : (v : VersionRecord) (h : ℕ) → Legal (v .bits) (v .length) → h ≡ heightOf v → Ready (v .bits) h (v .length)
+pub ready : (v : VersionRecord) (h : ℕ) → Legal (v .bits) (v .length) → h ≡ heightOf v → Descendable (v .bits) h (v .length)
 ready v h l e = record { bits = l .bits; shift = rw e (height-shift (v .bits) (v .length) l); size = l .length }
 
 module _ (s : Nodes) (v : VersionRecord) (t : List ℕ) where
@@ -93,13 +93,13 @@ module _ (s : Nodes) (a ns : List ℕ) (is : List ℤ) (n : ℕ) (v : VersionRec
 abbrev zeros : Version
 zeros = record { live = 0; root = 0; bits = 0; length = 0 }
 
-pub version-at : (s : Nodes) (vs : List Version) (i : ℕ) (t : List ℕ) (a : Answer) → a ≡ versionStep s (recordOf (getD vs i zeros)) t → a ≡ versionStep s (versionOf (recordsOf vs) i) t
+pub version-at : (s : Nodes) (vs : List Version) (i : ℕ) (t : List ℕ) (a : Answer) → a ≡ versionStep s (recordOf (getD vs i zeros)) t → a ≡ versionStep s (recordAt (recordsOf vs) i) t
 version-at s vs i t a e = e ∙ ap (λ (v : VersionRecord). versionStep s v t) (sym (List·getD-map recordOf vs i zeros))
 
 -- ---- all records
 
 module _ (s : Nodes) (vs : List VersionRecord) (a ns : List ℕ) (is : List ℤ) (t t′ : List ℕ) (o : Bool)
-    (versions : answer o t′ ≡ through versionCount (λ i. versionStep s (versionOf vs i)) t) where
+    (versions : answer o t′ ≡ through versionCount (λ i. versionStep s (recordAt vs i)) t) where
   records-are : goOn o t′ (λ u. through walkCount (walkStep s (walksOf a ns is)) u) ≡ recordsOk (lentOf s [] [] vs (walksOf a ns is)) t
   unfolding recordsOk versionsOk walksOk
   records-are = rw (← versions)

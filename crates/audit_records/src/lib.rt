@@ -7,7 +7,7 @@ ghost use Rattle.records.specs.Records.{recordOf, recordsOf};
 ghost use Rattle.audit_model.specs.Made.{nodesOf, walksOf, lentOf};
 ghost use Rattle.audit_model.specs.Descent.{answer, through};
 ghost use Rattle.audit_model.specs.Records.{versionStep, walkStep};
-ghost use Rattle.audit_model.specs.Audit.{versionOf, recordsOk};
+ghost use Rattle.audit_model.specs.Audit.{recordAt, recordsOk};
 
 // An empty record is 0; a live one has legal numbers, and its root is descended into.
 pub fn version_ok(
@@ -38,7 +38,7 @@ pub fn versions_ok(
     codes: &mut [u32],
     versions: [records::Version; limits::VERSIONS],
 ) -> bool
-    ensures { λ r. ⌜ answer r (now (codes .exit)) ≡ through versionCount (λ i. versionStep (nodesOf (now (kinds .entry)) (now (used .entry)) (now (cells .entry))) (versionOf (recordsOf versions) i)) (now (codes .entry)) ⌝ }
+    ensures { λ r. ⌜ answer r (now (codes .exit)) ≡ through versionCount (λ i. versionStep (nodesOf (now (kinds .entry)) (now (used .entry)) (now (cells .entry))) (recordAt (recordsOf versions) i)) (now (codes .entry)) ⌝ }
 {
     let mut i: usize = 0;
     while i < limits::VERSIONS {

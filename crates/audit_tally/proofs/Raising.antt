@@ -20,7 +20,7 @@ use Rattle.records.specs.declared.Version.{Version}
 use Rattle.records.specs.Records.{recordOf, recordsOf}
 use Rattle.audit_model.specs.Made.{kindsOf}
 use Rattle.audit_model.specs.Tallies.{raise, raiseTo, raiseRoot, rootsTally, nodeTally, nodesTally}
-use Rattle.audit_model.specs.Audit.{versionOf}
+use Rattle.audit_model.specs.Audit.{recordAt}
 use Rattle.audit_model.proofs.Counts.{to-raised, roots-raised, nodes-raised}
 use Rattle.audit_model.proofs.Steps.{cond-yes, cond-no}
 use Rattle.audit_tally.specs.Under.{Under}
@@ -161,7 +161,7 @@ module _ (f : ℕ → VersionRecord) (t₀ : List ℕ) where
 abbrev zeros : Version
 zeros = record { live = 0; root = 0; bits = 0; length = 0 }
 
-pub table-at : (vs : List Version) (i : ℕ) → recordOf (getD vs i zeros) ≡ versionOf (recordsOf vs) i
+pub table-at : (vs : List Version) (i : ℕ) → recordOf (getD vs i zeros) ≡ recordAt (recordsOf vs) i
 table-at vs i = sym (List·getD-map recordOf vs i zeros)
 
 -- ---- free nodes

@@ -9,7 +9,7 @@ ghost use Rattle.records.specs.Records.{recordOf, recordsOf};
 ghost use Rattle.audit_model.specs.Made.{nodesOf, kindsOf, walkVersion};
 ghost use Rattle.audit_model.specs.Records.{allTo};
 ghost use Rattle.audit_model.specs.Tallies.{raise, raiseTo, raiseRoot, rootsTally, nodeTally, nodesTally};
-ghost use Rattle.audit_model.specs.Audit.{versionOf};
+ghost use Rattle.audit_model.specs.Audit.{recordAt};
 ghost use Rattle.audit_tally.specs.Under.{Under};
 
 // One more for n, if it has a place.
@@ -74,7 +74,7 @@ pub fn raise_root(t: &mut [u32], v: records::Version)
 
 pub fn tally_versions(versions: [records::Version; limits::VERSIONS], t: &mut [u32])
     requires { ⌜ Under maxNodes (now t) ⌝ }
-    ensures { λ _. ⌜ (now (t .exit) ≡ rootsTally versionCount (versionOf (recordsOf versions)) (now (t .entry))) × Under (maxNodes + versionCount) (now (t .exit)) ⌝ }
+    ensures { λ _. ⌜ (now (t .exit) ≡ rootsTally versionCount (recordAt (recordsOf versions)) (now (t .entry))) × Under (maxNodes + versionCount) (now (t .exit)) ⌝ }
 {
     let mut i: usize = 0;
     while i < limits::VERSIONS {
@@ -151,7 +151,7 @@ pub fn tally_links(
 )
     requires { ⌜ (length (now kinds) ≤ maxNodes) × Under maxNodes (now t) ⌝ }
     ensures { λ _. ⌜ now (t .exit) ≡ nodesTally (nodesOf (now (kinds .entry)) (now (used .entry)) (now (cells .entry))) (length (now (kinds .entry)))
-        (rootsTally walkCount (walkVersion (now (numbers .entry))) (rootsTally versionCount (versionOf (recordsOf versions)) (now (t .entry)))) ⌝ }
+        (rootsTally walkCount (walkVersion (now (numbers .entry))) (rootsTally versionCount (recordAt (recordsOf versions)) (now (t .entry)))) ⌝ }
 {
     tally_versions(versions, t);
     tally_walks(numbers, t);

@@ -20,7 +20,8 @@ use Rattle.upkeep.proofs.Doors.{well-formed-runs}
 use Rattle.records.specs.declared.Version.{Version}
 use Rattle.store.specs.Store.{Store}
 use Rattle.walk.specs.Walk.{slices}
-use Rattle.audit.specs.Audited.{lentOf, Judged}
+use Rattle.audit_reads.specs.Slices.{lentFrom}
+use Rattle.audit.specs.Audited.{Judged}
 use Rattle.frames.specs.Run.{Run}
 use Rattle.serving.specs.States.{lentIn, runIn}
 use Rattle.serving.specs.Served.{serveAll}
@@ -28,7 +29,7 @@ use Rattle.serving.specs.Lending.{afterAll, replies, freeAt}
 use Rattle.serving.proofs.Demands.{demand2}
 use Rattle.runs.specs.Runs.{runOf, Progress, progress, runFrom, CanRun}
 use Rattle.runs.proofs.All.{run-all}
-use Rattle.batch.specs.Batched.{framesOf, stateAfter, Batches, batchedWith}
+use Rattle.batch.specs.Batched.{allFrames, stateAfter, Batches, batchedWith}
 use Rattle.batch.specs.declared.Batched.{Batched}
 
 -- ---- one proposition, one boolean
@@ -41,7 +42,7 @@ one-decision P false true p q = p .1 (q .0 refl)
 
 module _ (s : Lent) (requests room : List ℕ) where
   abbrev frames : List Frame
-  frames = framesOf requests
+  frames = allFrames requests
 
   -- ---- refused
 
@@ -117,8 +118,8 @@ module _ (s : Lent) (requests room : List ℕ) where
 -- ---- what is reported
 
 pub reported : (s : Lent) (requests room roomAfter kinds used counts cells order : List ℕ) (numbers nodes : List ℕ) (indices : List ℤ) (vs : List Version) (n k : ℕ) (r : Batched)
-    → r ≡ batchedWith n k vs → Batches s (lentOf kinds used counts cells order vs numbers nodes indices) requests room roomAfter n k
-    → Batches s (lentOf kinds used counts cells order (r .versions) numbers nodes indices) requests room roomAfter (r .number) (r .frames)
+    → r ≡ batchedWith n k vs → Batches s (lentFrom kinds used counts cells order vs numbers nodes indices) requests room roomAfter n k
+    → Batches s (lentFrom kinds used counts cells order (r .versions) numbers nodes indices) requests room roomAfter (r .number) (r .frames)
 reported s requests room roomAfter kinds used counts cells order numbers nodes indices vs n k r e b = rw e b
 
 -- ---- walk records copied out and back

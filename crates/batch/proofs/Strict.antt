@@ -13,7 +13,7 @@ use Rattle.meaning.specs.Serve.{Reply}
 use Rattle.meaning.specs.Batch.{Outcome, outcome, batch}
 use Rattle.audit_model.specs.Audit.{auditOk}
 use Rattle.audit_model.proofs.Sizes.{audit-judges}
-use Rattle.batch.specs.Batched.{framesOf, stateAfter, Batches}
+use Rattle.batch.specs.Batched.{allFrames, stateAfter, Batches}
 
 pub batches-once : (s : Lent) (requests room : List ℕ) (a b : Lent) (p q : List ℕ) (n m k j : ℕ) → Batches s a requests room p n k → Batches s b requests room q m j
     → (a ≡ b) × (p ≡ q) × (n ≡ m) × (k ≡ j)
@@ -21,7 +21,7 @@ batches-once s requests room a b p q n m k j x y =
     let well : Bool = auditOk s (replicate (size s) 0) in
     let same = x .plain well (audit-judges s) ∙ sym (y .plain well (audit-judges s)) in
     let number : n ≡ m = ap (λ (o : Outcome). o .number) same in (
-      x .state ∙ (ap (λ (i : ℕ). stateAfter i s (framesOf requests)) number ∙ sym (y .state)),
+      x .state ∙ (ap (λ (i : ℕ). stateAfter i s (allFrames requests)) number ∙ sym (y .state)),
       ap (λ (o : Outcome). o .room) same,
       number,
       ap (λ (o : Outcome). o .frames) same,

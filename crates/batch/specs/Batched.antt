@@ -19,8 +19,8 @@ abbrev pub batchedWith : (number frames : ℕ) → List Version → Batched
 batchedWith n k vs = record { number = n; frames = k; versions = vs }
 
 -- the frames of the request bytes
-abbrev pub framesOf : (requests : List ℕ) → List Frame
-framesOf requests = framesIn (length requests / frameSize) requests
+abbrev pub allFrames : (requests : List ℕ) → List Frame
+allFrames requests = framesIn (length requests / frameSize) requests
 
 -- a state after a batch: the frames served in order, or nothing changed if it is refused
 unfoldable pub stateAfter : (number : ℕ) → Lent → List Frame → Lent
@@ -30,8 +30,8 @@ stateAfter (suc n) s fs = s
 pub record Batches (s after : Lent) (requests room roomAfter : List ℕ) (number frames : ℕ) : Type 0 where
   -- the report, every byte of the answer room and the table afterwards are the plain table's, by whether the state is well-formed and how many nodes are free at each frame
   pub plain : (well : Bool) → ((well ≡ true) ↔ WellFormed s)
-      → record { number = number; frames = frames; room = roomAfter; table = tableOf after } ≡ batch well requests room (freeAt s (framesOf requests)) (tableOf s)
+      → record { number = number; frames = frames; room = roomAfter; table = tableOf after } ≡ batch well requests room (freeAt s (allFrames requests)) (tableOf s)
   -- a state that was well-formed is so again
   pub formed : WellFormed s → WellFormed after
   -- which state it is, to the last cell
-  pub state : after ≡ stateAfter number s (framesOf requests)
+  pub state : after ≡ stateAfter number s (allFrames requests)

@@ -11,7 +11,7 @@ ghost use mathlib.Core.Path.{_≡_};
 ghost use Rattle.records.specs.Records.{recordsOf};
 ghost use Rattle.store.specs.Store.{storeOf};
 ghost use Rattle.walk.specs.Walk.{slices};
-ghost use Rattle.audit.specs.Audited.{lentOf};
+ghost use Rattle.audit_reads.specs.Slices.{lentFrom};
 ghost use Rattle.runs.specs.Runs.{runOf, progress, CanRun, runFrom};
 ghost use Rattle.batch.specs.Batched.{Batches, batchedWith};
 
@@ -94,9 +94,9 @@ pub fn batch(
     requests: &[u8],
     room: &mut [u8],
 ) -> Batched
-    ensures { λ r. ⌜ Batches (lentOf (now (kinds .entry)) (now (used .entry)) (now (counts .entry)) (now (cells .entry)) (now (order .entry)) versions
+    ensures { λ r. ⌜ Batches (lentFrom (now (kinds .entry)) (now (used .entry)) (now (counts .entry)) (now (cells .entry)) (now (order .entry)) versions
         (now («walk_numbers» .entry)) (now («walk_nodes» .entry)) (now («walk_indices» .entry)))
-        (lentOf (now (kinds .exit)) (now (used .exit)) (now (counts .exit)) (now (cells .exit)) (now (order .exit)) (r .versions)
+        (lentFrom (now (kinds .exit)) (now (used .exit)) (now (counts .exit)) (now (cells .exit)) (now (order .exit)) (r .versions)
         (now («walk_numbers» .exit)) (now («walk_nodes» .exit)) (now («walk_indices» .exit)))
         (now (requests .entry)) (now (room .entry)) (now (room .exit)) (r .number) (r .frames) ⌝ }
 {

@@ -21,7 +21,7 @@ use Rattle.compare.specs.declared.Ordering.{Ordering}
 use Rattle.store.specs.Store.{Store, raises}
 use Rattle.sweep.specs.Sweep as sweep
 use Rattle.sweep.specs.Ready.{Releasable}
-use Rattle.walk.specs.Walk.{Step, stepped, slices, versionIn, opened, closed, takenBy}
+use Rattle.walk.specs.Walk.{Step, stepped, slices, versionOfWalk, opened, closed, takenBy}
 use Rattle.served.specs.Served.{answeredWith, gotWith, orderedWith}
 use Rattle.served.specs.Acted.{Acted, actedOf}
 use Rattle.served.specs.declared.Served.{Served}
@@ -112,7 +112,7 @@ module _ (cells : List ℕ) (free : ℕ) (f : Frame) (v w old : Version) (r : Se
 pub root-releases : (s : Store) (v : Version) (w : VersionRecord) → recordOf v ≡ w → Releasable s (w .root) → Releasable s (v .root)
 root-releases s v w e p = rw (ap (λ (x : VersionRecord). x .root) e) p
 
-pub closes : (s : Store) (ws : WalkSlices) (n : ℕ) (old v : Version) (left : ℕ) (after : Store) (walksAfter : WalkSlices) (r : Served) → recordOf v ≡ versionIn (ws .numbers) n
+pub closes : (s : Store) (ws : WalkSlices) (n : ℕ) (old v : Version) (left : ℕ) (after : Store) (walksAfter : WalkSlices) (r : Served) → recordOf v ≡ versionOfWalk (ws .numbers) n
     → record { nodes = after .nodes; counts = after .counts; order = after .order; free = left } ≡ sweep.release s (v .root) → walksAfter ≡ closed ws n → r ≡ answeredWith 0 left old
     → after .free ≡ r .free → Closes s ws n old after walksAfter r
 closes s ws n old v left after walksAfter r p q h t f =

@@ -27,8 +27,8 @@ pub record Sources (s : Store) (f : Frame) (v w : VersionRecord) : Type 0 where
   pub other : f .operation ≡ COMPARE → Legal (w .bits) (w .length)
 
 -- a record of the meaning as one of the code
-abbrev pub versionOf : VersionRecord → Version
-versionOf v = record { live = v .live; root = v .root; bits = v .bits; length = v .length }
+abbrev pub codeRecord : VersionRecord → Version
+codeRecord v = record { live = v .live; root = v .root; bits = v .bits; length = v .length }
 
 abbrev pub isEdit : (operation : ℕ) → Bool
 isEdit n = eqb n NEW || eqb n CLONE || eqb n SET || eqb n PUSH-BACK || eqb n DROP-LAST || eqb n HAND-OVER
@@ -43,7 +43,7 @@ pub record Serviceable (s : Store) (ws : WalkSlices) (f : Frame) (v w : VersionR
 -- nothing changes but the answer
 unfoldable pub readAct : Store → Frame → (source other old : VersionRecord) → Acted
 readAct s f v w old =
-    let r = readWith (s .nodes .cells) (s .free) f (versionOf v) (versionOf w) (versionOf old) in
+    let r = readWith (s .nodes .cells) (s .free) f (codeRecord v) (codeRecord w) (codeRecord old) in
     walks.acted s old (record { number = r .number; fresh = r .fresh; value = r .value })
 
 unfoldable pub storeAct : Store → Frame → (source other old : VersionRecord) → Acted

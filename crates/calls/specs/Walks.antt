@@ -16,7 +16,7 @@ use Rattle.store.specs.Store.{Store, raise, raised}
 use Rattle.sweep.specs.Ready.{Releasable}
 use Rattle.sweep.specs.Sweep as sweep
 use Rattle.vector.specs.Ready.{Linkable}
-use Rattle.walk.specs.Walk.{stored, openRecord, versionIn, Walkable, Step, takenBy}
+use Rattle.walk.specs.Walk.{stored, openRecord, versionOfWalk, Walkable, Step, takenBy}
 use Rattle.walk.specs.Walk as walk
 use Rattle.served.specs.Served.{answeredWith, gotWith}
 use Rattle.served.specs.Acted.{Acted}
@@ -41,7 +41,7 @@ pub record Opens (counts numbers : List ℕ) (free n : ℕ) (v : VersionRecord) 
   pub answer : r ≡ answeredWith 0 free old
 
 pub record Closes (s : Store) (ws : WalkSlices) (n : ℕ) (old : Version) (after : Store) (walksAfter : WalkSlices) (r : Served) : Type 0 where
-  pub store : after ≡ sweep.release s (versionIn (ws .numbers) n .root)
+  pub store : after ≡ sweep.release s (versionOfWalk (ws .numbers) n .root)
   pub walks : walksAfter ≡ walk.closed ws n
   pub answer : r ≡ answeredWith 0 (r .free) old
 
@@ -54,7 +54,7 @@ pub record Steps (t : Step) (free : ℕ) (old : Version) (walksAfter : WalkSlice
 -- what they ask of a state
 pub record OnWalk (s : Store) (ws : WalkSlices) (f : Frame) (v : VersionRecord) : Type 0 where
   pub opening : f .operation ≡ OPEN-WALK → Linkable (s .counts) (v .root)
-  pub closing : f .operation ≡ CLOSE-WALK → Releasable s (versionIn (ws .numbers) (usedPlace f) .root)
+  pub closing : f .operation ≡ CLOSE-WALK → Releasable s (versionOfWalk (ws .numbers) (usedPlace f) .root)
   pub taking : f .operation ≢ OPEN-WALK → f .operation ≢ CLOSE-WALK → Walkable (ws .numbers) (usedPlace f)
 
 pub record WalkActed : Type 0 where
@@ -76,5 +76,5 @@ walkAct s ws f v old =
     let t = takenBy (s .nodes .cells) (s .nodes .used) (eqb (f .operation) NEXT-BACK) ws (usedPlace f) in
     cond (eqb (f .operation) OPEN-WALK) (withWalks (acted (raised s (v .root ∷ [])) old (valued 0)) (walk.opened ws (openedPlace f) v))
     (cond (eqb (f .operation) CLOSE-WALK)
-    (withWalks (acted (sweep.release s (versionIn (ws .numbers) (usedPlace f) .root)) old (valued 0)) (walk.closed ws (usedPlace f)))
+    (withWalks (acted (sweep.release s (versionOfWalk (ws .numbers) (usedPlace f) .root)) old (valued 0)) (walk.closed ws (usedPlace f)))
     (withWalks (acted s old (answerOf (t .answer))) (t .slices)))

@@ -17,7 +17,7 @@ ghost use Rattle.records.specs.Records.{recordOf};
 ghost use Rattle.store.specs.Store.{storeOf};
 ghost use Rattle.sweep.specs.Ready.{Releasable};
 ghost use Rattle.vector.specs.Ready.{Linkable};
-ghost use Rattle.walk.specs.Walk.{slices, versionIn, Walkable, takenBy};
+ghost use Rattle.walk.specs.Walk.{slices, versionOfWalk, Walkable, takenBy};
 ghost use Rattle.requests.specs.Requests.{frameOf};
 ghost use Rattle.served.specs.Acted.{actedOf};
 ghost use Rattle.calls.specs.Walks.{placeOf, Opens, Closes, Steps, OnWalk, withWalks, walkAct};
@@ -59,7 +59,7 @@ fn close(
     n: u32,
     old: Version,
 ) -> Served
-    requires release { ⌜ Releasable (storeOf (now kinds) (now used) (now counts) (now cells) (now order) (supply .free)) (versionIn (now numbers) n .root) ⌝ }
+    requires release { ⌜ Releasable (storeOf (now kinds) (now used) (now counts) (now cells) (now order) (supply .free)) (versionOfWalk (now numbers) n .root) ⌝ }
     requires place { ⌜ n < walkCount ⌝ }
     ensures { λ r. ⌜ Closes (storeOf (now (kinds .entry)) (now (used .entry)) (now (counts .entry)) (now (cells .entry)) (now (order .entry)) (supply .free))
         (slices (now (numbers .entry)) (now (nodes .entry)) (now (indices .entry))) n old

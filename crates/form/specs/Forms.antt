@@ -2,20 +2,11 @@
 use mathlib.Core.Path.{_≡_}
 use mathlib.Core.List.{List}
 use Prim.Native.Nat.{ℕ}
-use lib.IntN.{ℤ}
 use lib.ListN.{length, replicate}
 use Rattle.meaning.specs.Limits.{DONE, ILL-FORMED}
 use Rattle.meaning.specs.Lent.{Lent, size}
 use Rattle.meaning.specs.WellFormed.{SizesFit}
 use Rattle.meaning.specs.Fresh.{freshState}
-use Rattle.records.specs.declared.Version.{Version}
-use Rattle.records.specs.Records.{recordsOf}
-use Rattle.audit_model.specs.Made.{nodesOf, walksOf}
-use Rattle.audit_model.specs.Made as made
-
--- the lent state of the slices and the table
-abbrev pub lentOf : (kinds used counts cells order : List ℕ) → List Version → (walkNumbers walkNodes : List ℕ) → List ℤ → Lent
-lentOf k u c e o v a b i = made.lentOf (nodesOf k u e) c o (recordsOf v) (walksOf a b i)
 
 -- Sizes that fit one N in range make the fresh state of N nodes over the cells as they were lent; any others are refused with 11, and nothing is written.
 pub record Forms (s after : Lent) (number : ℕ) : Type 0 where

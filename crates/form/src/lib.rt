@@ -9,7 +9,8 @@ ghost use lib.IntN.{pos};
 ghost use lib.ListN.{length, replicate};
 ghost use Rattle.meaning.specs.Limits.{maxNodes};
 ghost use Rattle.meaning.specs.Fresh.{downFrom};
-ghost use Rattle.form.specs.Forms.{lentOf, zeros, Forms};
+ghost use Rattle.audit_reads.specs.Slices.{lentFrom};
+ghost use Rattle.form.specs.Forms.{zeros, Forms};
 
 fn clear_bytes(bytes: &mut [u8])
     ensures { λ _. ⌜ now (bytes .exit) ≡ zeros (now (bytes .entry)) ⌝ }
@@ -96,9 +97,9 @@ pub fn form(
     walk_indices: &mut [i32],
 ) -> Formed
     ensures { λ r. ⌜ Forms
-        (lentOf (now (kinds .entry)) (now (used .entry)) (now (counts .entry)) (now (cells .entry)) (now (order .entry)) versions
+        (lentFrom (now (kinds .entry)) (now (used .entry)) (now (counts .entry)) (now (cells .entry)) (now (order .entry)) versions
         (now («walk_numbers» .entry)) (now («walk_nodes» .entry)) (now («walk_indices» .entry)))
-        (lentOf (now (kinds .exit)) (now (used .exit)) (now (counts .exit)) (now (cells .entry)) (now (order .exit)) (r .versions)
+        (lentFrom (now (kinds .exit)) (now (used .exit)) (now (counts .exit)) (now (cells .entry)) (now (order .exit)) (r .versions)
         (now («walk_numbers» .exit)) (now («walk_nodes» .exit)) (now («walk_indices» .exit))) (r .number) ⌝ }
 {
     let fits = audit_compare::lengths_ok(

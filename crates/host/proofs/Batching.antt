@@ -18,7 +18,7 @@ use Rattle.lending.specs.Lending.{refusalOf}
 use Rattle.batch.specs.Batched.{stateAfter, Batches}
 use Rattle.batch.proofs.Batching.{ragged, no-room, ill-formed}
 use Rattle.host.specs.declared.Done.{Done}
-use Rattle.host.specs.Reports.{doneWith, BatchesOf}
+use Rattle.host.specs.Reports.{reportedWith, BatchesOf}
 use Rattle.host.proofs.Settled.{holding, other-length, settled-whole, settled-other}
 
 -- ---- a state that can't be well-formed
@@ -41,11 +41,11 @@ module _ (s : Lent) (requests room : List ℕ) (ill : WellFormed s → ⊥) wher
 -- ---- of the table
 
 pub batch-refused : (count : ℕ) (s : Lent) (requests room : List ℕ) (number : ℕ) (vs : List Version) → count ≢ 64 → number ≡ refusalOf (length requests) (length room)
-    → BatchesOf count s s requests room room (doneWith number 0 vs)
+    → BatchesOf count s s requests room room (reportedWith number 0 vs)
 batch-refused count s requests room number vs n e = record { whole = λ h. absurd (n h); other = λ h. (e, refl, refl, refl); stores = refl }
 
 pub batch-done : (count : ℕ) (s after : Lent) (requests room roomAfter : List ℕ) (number frames : ℕ) (vs : List Version) → count ≡ 64 → Batches s after requests room roomAfter number frames
-    → BatchesOf count s after requests room roomAfter (doneWith number frames vs)
+    → BatchesOf count s after requests room roomAfter (reportedWith number frames vs)
 batch-done count s after requests room roomAfter number frames vs e f = record { whole = λ h. f; other = λ h. absurd (h e); stores = refl }
 
 -- ---- of the records

@@ -13,13 +13,13 @@ use Rattle.records.specs.Records.{recordsOf}
 use Rattle.version_table.specs.Tables.{tableOf, stored}
 use Rattle.form.specs.Forms.{Forms}
 use Rattle.host.specs.declared.Done.{Done}
-use Rattle.host.specs.Reports.{doneWith, FormsOf}
+use Rattle.host.specs.Reports.{reportedWith, FormsOf}
 use Rattle.host.proofs.Settled.{holding, other-length, settled-whole, settled-other}
 
-pub form-refused : (count : ℕ) (s : Lent) (vs : List Version) → count ≢ 64 → FormsOf count s s (doneWith 11 0 vs)
+pub form-refused : (count : ℕ) (s : Lent) (vs : List Version) → count ≢ 64 → FormsOf count s s (reportedWith 11 0 vs)
 form-refused count s vs n = record { whole = λ h. absurd (n h); other = λ h. (refl, refl); frames = refl; stores = refl }
 
-pub form-done : (count : ℕ) (s after : Lent) (number : ℕ) (vs : List Version) → count ≡ 64 → Forms s after number → FormsOf count s after (doneWith number 0 vs)
+pub form-done : (count : ℕ) (s after : Lent) (number : ℕ) (vs : List Version) → count ≡ 64 → Forms s after number → FormsOf count s after (reportedWith number 0 vs)
 form-done count s after number vs e f = record { whole = λ h. f; other = λ h. absurd (h e); frames = refl; stores = refl }
 
 pub form-settled : (ys table us : List Version) (s after : Lent) (r : Done) → table ≡ tableOf ys → s .versions ≡ recordsOf table → after .versions ≡ recordsOf (r .versions)

@@ -14,8 +14,8 @@ use Rattle.batch.specs.Batched.{Batches}
 use Rattle.host.specs.declared.Done.{Done}
 
 -- the table is stored if the call is done
-abbrev pub doneWith : (number frames : ℕ) → List Version → Done
-doneWith n k vs = record { report = record { number = n; frames = k }; stores = eqb n DONE; versions = vs }
+abbrev pub reportedWith : (number frames : ℕ) → List Version → Done
+reportedWith n k vs = record { report = record { number = n; frames = k }; stores = eqb n DONE; versions = vs }
 
 -- forming: records of another number than 64 don't fit, and nothing is written
 pub record FormsOf (count : ℕ) (s after : Lent) (r : Done) : Type 0 where

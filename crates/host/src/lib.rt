@@ -7,10 +7,11 @@ use records::Version;
 use version_table::store_table;
 use version_table::table_of;
 ghost use mathlib.Core.Path.{_≡_};
-ghost use Rattle.lending.specs.Lending.{Sized};
-ghost use Rattle.form.specs.Forms.{lentOf, Forms};
+ghost use Rattle.lending.specs.Lending.{RightSizes};
+ghost use Rattle.audit_reads.specs.Slices.{lentFrom};
+ghost use Rattle.form.specs.Forms.{Forms};
 ghost use Rattle.batch.specs.Batched.{Batches};
-ghost use Rattle.host.specs.Reports.{doneWith, FormsOf, BatchesOf};
+ghost use Rattle.host.specs.Reports.{reportedWith, FormsOf, BatchesOf};
 
 // What a call reports: the number given back, and how many frames ran.
 #[repr(C)]
@@ -27,7 +28,7 @@ pub struct Done {
 }
 
 fn done_with(number: u8, frames: usize, versions: [Version; VERSIONS]) -> Done
-    ensures { λ r. ⌜ r ≡ doneWith number frames versions ⌝ }
+    ensures { λ r. ⌜ r ≡ reportedWith number frames versions ⌝ }
 {
     let report = Report {
         number: number as u32,
@@ -54,9 +55,9 @@ fn form_table(
     walk_indices: &mut [i32],
 ) -> Done
     ensures { λ r. ⌜ FormsOf count
-        (lentOf (now (kinds .entry)) (now (used .entry)) (now (counts .entry)) (now (cells .entry)) (now (order .entry)) versions
+        (lentFrom (now (kinds .entry)) (now (used .entry)) (now (counts .entry)) (now (cells .entry)) (now (order .entry)) versions
         (now («walk_numbers» .entry)) (now («walk_nodes» .entry)) (now («walk_indices» .entry)))
-        (lentOf (now (kinds .exit)) (now (used .exit)) (now (counts .exit)) (now (cells .entry)) (now (order .exit)) (r .versions)
+        (lentFrom (now (kinds .exit)) (now (used .exit)) (now (counts .exit)) (now (cells .entry)) (now (order .exit)) (r .versions)
         (now («walk_numbers» .exit)) (now («walk_nodes» .exit)) (now («walk_indices» .exit))) r ⌝ }
 {
     if count != VERSIONS {
@@ -80,7 +81,7 @@ fn form_table(
 // How many elements each slice of a state of so many nodes has; all 0 where there is no such state.
 #[no_mangle]
 pub extern "C" fn jumperloft1_sizes(nodes: usize) -> Sizes
-    ensures { λ r. ⌜ Sized nodes r ⌝ }
+    ensures { λ r. ⌜ RightSizes nodes r ⌝ }
 {
     lending::sizes_of(nodes)
 }
@@ -99,9 +100,9 @@ pub extern "C" fn jumperloft1_form(
     walk_indices: &mut [i32],
 ) -> Report
     ensures { λ r. ⌜ Forms
-        (lentOf (now (kinds .entry)) (now (used .entry)) (now (counts .entry)) (now (cells .entry)) (now (order .entry)) (now (versions .entry))
+        (lentFrom (now (kinds .entry)) (now (used .entry)) (now (counts .entry)) (now (cells .entry)) (now (order .entry)) (now (versions .entry))
         (now («walk_numbers» .entry)) (now («walk_nodes» .entry)) (now («walk_indices» .entry)))
-        (lentOf (now (kinds .exit)) (now (used .exit)) (now (counts .exit)) (now (cells .entry)) (now (order .exit)) (now (versions .exit))
+        (lentFrom (now (kinds .exit)) (now (used .exit)) (now (counts .exit)) (now (cells .entry)) (now (order .exit)) (now (versions .exit))
         (now («walk_numbers» .exit)) (now («walk_nodes» .exit)) (now («walk_indices» .exit))) (r .number) × (r .frames ≡ 0) ⌝ }
 {
     let count = versions.len();
@@ -138,9 +139,9 @@ fn batch_table(
     room: &mut [u8],
 ) -> Done
     ensures { λ r. ⌜ BatchesOf count
-        (lentOf (now (kinds .entry)) (now (used .entry)) (now (counts .entry)) (now (cells .entry)) (now (order .entry)) versions
+        (lentFrom (now (kinds .entry)) (now (used .entry)) (now (counts .entry)) (now (cells .entry)) (now (order .entry)) versions
         (now («walk_numbers» .entry)) (now («walk_nodes» .entry)) (now («walk_indices» .entry)))
-        (lentOf (now (kinds .exit)) (now (used .exit)) (now (counts .exit)) (now (cells .exit)) (now (order .exit)) (r .versions)
+        (lentFrom (now (kinds .exit)) (now (used .exit)) (now (counts .exit)) (now (cells .exit)) (now (order .exit)) (r .versions)
         (now («walk_numbers» .exit)) (now («walk_nodes» .exit)) (now («walk_indices» .exit)))
         (now (requests .entry)) (now (room .entry)) (now (room .exit)) r ⌝ }
 {
@@ -181,9 +182,9 @@ pub extern "C" fn jumperloft1_batch(
     room: &mut [u8],
 ) -> Report
     ensures { λ r. ⌜ Batches
-        (lentOf (now (kinds .entry)) (now (used .entry)) (now (counts .entry)) (now (cells .entry)) (now (order .entry)) (now (versions .entry))
+        (lentFrom (now (kinds .entry)) (now (used .entry)) (now (counts .entry)) (now (cells .entry)) (now (order .entry)) (now (versions .entry))
         (now («walk_numbers» .entry)) (now («walk_nodes» .entry)) (now («walk_indices» .entry)))
-        (lentOf (now (kinds .exit)) (now (used .exit)) (now (counts .exit)) (now (cells .exit)) (now (order .exit)) (now (versions .exit))
+        (lentFrom (now (kinds .exit)) (now (used .exit)) (now (counts .exit)) (now (cells .exit)) (now (order .exit)) (now (versions .exit))
         (now («walk_numbers» .exit)) (now («walk_nodes» .exit)) (now («walk_indices» .exit)))
         (now (requests .entry)) (now (room .entry)) (now (room .exit)) (r .number) (r .frames) ⌝ }
 {

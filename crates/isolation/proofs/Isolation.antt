@@ -14,7 +14,7 @@ use Rattle.meaning.specs.Frames.{Frame, Answer}
 use Rattle.meaning.specs.Supply.{Supply, noLimit}
 use Rattle.meaning.specs.Serve.{step, serve, Call, Reply, run}
 use Rattle.meaning.proofs.Lists.{each-map}
-use Rattle.isolation.specs.Demand3.{keep, framesOf, answersTo, strikeOut, framesIn, partyByParty, withoutLimit, Own, Demand3}
+use Rattle.isolation.specs.Demand3.{keep, framesOf, answersTo, strikeOut, framesAsked, partyByParty, withoutLimit, Own, Demand3}
 use Rattle.isolation.proofs.Keeping.{sorted-one, each-sorted}
 use Rattle.isolation.proofs.Steps.{own-op, serve-own}
 use Rattle.isolation.proofs.Parties.{alone, together, Apart, isolation}
@@ -77,14 +77,14 @@ sorted-same fs t e h = (
         (a .0 ∙ sym (rw c at (b .0)), a .1 ∙ sym (rw c at (b .1)))
 
 -- the frames that are left are own frames still
-each-left : (cs : List Call) (t : Table) → Each (λ (c : Call). Own (c .frame)) cs → Each Own (framesIn (strikeOut (run cs t .1)))
+each-left : (cs : List Call) (t : Table) → Each (λ (c : Call). Own (c .frame)) cs → Each Own (framesAsked (strikeOut (run cs t .1)))
 unfolding run strikeOut keep
 each-left [] t h = tt
 each-left (c ∷ cs) t h =
     let r = serve (c .supply) (c .frame) t in
     pick (not (eqb (r .1 .number) NO-NODES)) (r .1) (strikeOut (run cs (r .0) .1)) (each-left cs (r .0) (h .1))
   where
-    pick : (b : Bool) (x : Answer) (xs : List Reply) → Each Own (framesIn xs) → Each Own (framesIn (cond b (record { frame = c .frame; answer = x } ∷ xs) xs))
+    pick : (b : Bool) (x : Answer) (xs : List Reply) → Each Own (framesAsked xs) → Each Own (framesAsked (cond b (record { frame = c .frame; answer = x } ∷ xs) xs))
     pick true x xs k = (h .0, k)
     pick false x xs k = k
 
@@ -97,7 +97,7 @@ demand3 cs t e h =
     }
   where
     fs : List Frame
-    fs = framesIn (strikeOut (run cs t .1))
+    fs = framesAsked (strikeOut (run cs t .1))
 
     struck : run (withoutLimit fs) t ≡ (run cs t .0, strikeOut (run cs t .1))
     struck = run-struck cs t (each-map (λ (c : Call) (w : Own (c .frame)). own-op (c .frame) w .1) cs h)

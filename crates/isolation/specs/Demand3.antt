@@ -35,8 +35,8 @@ unfoldable pub strikeOut : List Reply → List Reply
 unfolding keep
 strikeOut rs = keep (λ (r : Reply). not (eqb (r .answer .number) NO-NODES)) rs
 
-abbrev pub framesIn : List Reply → List Frame
-framesIn rs = map (λ (r : Reply). r .frame) rs
+abbrev pub framesAsked : List Reply → List Frame
+framesAsked rs = map (λ (r : Reply). r .frame) rs
 
 -- all frames of party 0, then all of party 1, and so on below party n
 unfoldable pub partyByParty : (n : ℕ) → List Frame → List Frame
@@ -66,7 +66,7 @@ module _ (calls : List Call) (t : Table) where
 
   -- the rest run again, party by party, with no limit
   abbrev pub apart : Table × List Reply
-  apart = run (withoutLimit (partyByParty (suc lastParty) (framesIn left))) t
+  apart = run (withoutLimit (partyByParty (suc lastParty) (framesAsked left))) t
 
   -- then all slots and walks are the same, and each party is answered the same in its own order
   pub record Isolated : Type 0 where

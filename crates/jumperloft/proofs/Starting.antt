@@ -11,7 +11,8 @@ use Rattle.meaning.specs.Fresh.{freshState}
 use Rattle.meaning.specs.WellFormed.{SizesFit}
 use Rattle.records.specs.Records.{recordOf}
 use Rattle.records.specs.declared.Version.{Version}
-use Rattle.form.specs.Forms.{lentOf, Forms}
+use Rattle.audit_reads.specs.Slices.{lentFrom}
+use Rattle.form.specs.Forms.{Forms}
 use Rattle.frames.specs.Run.{Run}
 use Rattle.runs.specs.Runs.{runOf}
 use Rattle.serving.specs.States.{Runs}
@@ -42,7 +43,7 @@ zero-words : (n : ℕ) → length (replicate n zero) ≡ n
 zero-words n = length-replicate n zero
 
 pub zeros-fit : (v : Version)
-    → SizesFit (lentOf (replicate 256 0) (replicate 256 0) (replicate 256 0) (replicate 8192 0) (replicate 256 0) (replicate 64 v) (replicate 96 0) (replicate 480 0) (replicate 480 (pos 0)))
+    → SizesFit (lentFrom (replicate 256 0) (replicate 256 0) (replicate 256 0) (replicate 8192 0) (replicate 256 0) (replicate 64 v) (replicate 96 0) (replicate 480 0) (replicate 480 (pos 0)))
 zeros-fit v = record {
   least = rw zero-words (omega arith);
   most = rw zero-words (omega arith);

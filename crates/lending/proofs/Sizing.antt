@@ -7,7 +7,7 @@ use Rattle.meaning.specs.Limits.{maxNodes, nodeCells}
 use Rattle.meaning.specs.Lent.{Lent, size}
 use Rattle.meaning.specs.WellFormed.{SizesFit}
 use Rattle.lending.specs.declared.Sizes.{Sizes}
-use Rattle.lending.specs.Lending.{noSizes, sizesOf, Sized}
+use Rattle.lending.specs.Lending.{noSizes, sizesOf, RightSizes}
 
 abbrev sizesFor : ℕ → Sizes
 sizesFor n = record { nodes = n; used = n; cells = nodeCells * n; counts = n; order = n; versions = 64; «walk_numbers» = 96; «walk_nodes» = 480; «walk_indices» = 480 }
@@ -48,21 +48,21 @@ module _ (n : ℕ) (least : 1 ≤ n) (most : n ≤ maxNodes) (s : Lent) where
     «walk_indices» = f .walkIndices i;
   }
 
-pub sized : (n : ℕ) → 1 ≤ n → n ≤ maxNodes → Sized n (sizesFor n)
+pub sized : (n : ℕ) → 1 ≤ n → n ≤ maxNodes → RightSizes n (sizesFor n)
 sized n l m = record { fits = λ l₁ m₁ s. (fit n l m s, λ f. fitted n l m s (f .0) (f .1)); none = λ h. absurd (h l m) }
 
 -- ---- n out of range
 
-unsized : (n : ℕ) → (1 ≤ n → n ≤ maxNodes → ⊥) → Sized n noSizes
+unsized : (n : ℕ) → (1 ≤ n → n ≤ maxNodes → ⊥) → RightSizes n noSizes
 unsized n h = record { fits = λ l m. absurd (h l m); none = λ g. refl }
 
-pub none-below : (n : ℕ) → n ≡ 0 → Sized n noSizes
+pub none-below : (n : ℕ) → n ≡ 0 → RightSizes n noSizes
 none-below n e = unsized n (λ l m. not-one (subst (λ (k : ℕ). 1 ≤ k) e l))
   where
     not-one : 1 ≤ 0 → ⊥
     not-one h = omega (arith, h)
 
-pub none-above : (n : ℕ) → maxNodes < n → Sized n noSizes
+pub none-above : (n : ℕ) → maxNodes < n → RightSizes n noSizes
 none-above n h = unsized n (λ l m. omega (arith, h, m))
 
 pub at-least-one : (n : ℕ) → n ≢ 0 → 1 ≤ n

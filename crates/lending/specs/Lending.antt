@@ -29,7 +29,7 @@ sizesOf s = record {
 }
 
 -- the sizes of a state of n nodes are these, and of no other
-pub record Sized (n : ℕ) (r : Sizes) : Type 0 where
+pub record RightSizes (n : ℕ) (r : Sizes) : Type 0 where
   pub fits : 1 ≤ n → n ≤ maxNodes → (s : Lent) → (sizesOf s ≡ r) ↔ (SizesFit s × (size s ≡ n))
   pub none : (1 ≤ n → n ≤ maxNodes → ⊥) → r ≡ noSizes
 

@@ -9,7 +9,7 @@ use limits::numbers::ILL_FORMED;
 use limits::numbers::NO_ROOM;
 use limits::numbers::RAGGED;
 ghost use mathlib.Core.Path.{_≡_};
-ghost use Rattle.lending.specs.Lending.{noSizes, Sized, refusalOf};
+ghost use Rattle.lending.specs.Lending.{noSizes, RightSizes, refusalOf};
 
 // How many elements each slice has.
 #[repr(C)]
@@ -43,7 +43,7 @@ fn no_sizes() -> Sizes
 
 // Of a state of so many nodes; all 0 where there is none.
 pub fn sizes_of(nodes: usize) -> Sizes
-    ensures { λ r. ⌜ Sized nodes r ⌝ }
+    ensures { λ r. ⌜ RightSizes nodes r ⌝ }
 {
     if nodes == 0 {
         return no_sizes();

@@ -14,15 +14,15 @@ use Rattle.store.specs.Store.{Store, top, make, raised}
 use Rattle.paths.specs.Paths.{Made, assoc, grow, dropLast}
 
 -- a live record
-abbrev pub versionOf : (root bits length : ℕ) → VersionRecord
-versionOf n bits m = record { live = 1; root = n; bits = bits; length = m }
+abbrev pub liveRecord : (root bits length : ℕ) → VersionRecord
+liveRecord n bits m = record { live = 1; root = n; bits = bits; length = m }
 
 pub record Edit : Type 0 where
   pub store : Store
   pub version : VersionRecord
 
 abbrev pub edit : Made → (bits length : ℕ) → Edit
-edit m bits n = record { store = m .store; version = versionOf (m .node) bits n }
+edit m bits n = record { store = m .store; version = liveRecord (m .node) bits n }
 
 -- an empty leaf
 unfoldable pub emptyLeaf : Store → Made

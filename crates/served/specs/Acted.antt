@@ -27,17 +27,17 @@ copiedIn NothingThere = 0
 copiedIn Full = 0
 copiedIn NoNodes = 0
 
-abbrev pub versionIn : Edited → (old : VersionRecord) → VersionRecord
-versionIn (Done e) old = recordOf (e .version)
-versionIn BadBits old = old
-versionIn NothingThere old = old
-versionIn Full old = old
-versionIn NoNodes old = old
+abbrev pub versionAfter : Edited → (old : VersionRecord) → VersionRecord
+versionAfter (Done e) old = recordOf (e .version)
+versionAfter BadBits old = old
+versionAfter NothingThere old = old
+versionAfter Full old = old
+versionAfter NoNodes old = old
 
 unfoldable pub edited : (old : VersionRecord) → Called → Acted
 edited old c =
     record {
       store = c .store;
-      version = versionIn (c .answer) old;
+      version = versionAfter (c .answer) old;
       answer = record { number = numberOf (c .answer); fresh = copiedIn (c .answer) % 256; value = 0 };
     }

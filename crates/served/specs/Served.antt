@@ -23,11 +23,11 @@ abbrev pub answeredWith : (value free : ℕ) → Version → Served
 answeredWith x f v = servedWith DONE 0 x f v
 
 -- the fall in free nodes is what was copied
-abbrev pub doneWith : Edit → Served
-doneWith e = servedWith DONE (e .copied % 256) 0 (e .free) (e .version)
+abbrev pub servedDone : Edit → Served
+servedDone e = servedWith DONE (e .copied % 256) 0 (e .free) (e .version)
 
 abbrev pub editedWith : Edited → (free : ℕ) → (old : Version) → Served
-editedWith (Done e) f old = doneWith e
+editedWith (Done e) f old = servedDone e
 editedWith BadBits f old = refusedWith BAD-BITS f old
 editedWith NothingThere f old = refusedWith NOTHING-THERE f old
 editedWith Full f old = refusedWith FULL f old

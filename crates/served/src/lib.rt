@@ -11,7 +11,7 @@ use vector::Edit;
 use vector::Edited;
 ghost use mathlib.Core.Path.{_≡_};
 ghost use Prim.Native.Nat.{_%_};
-ghost use Rattle.served.specs.Served.{refusedWith, answeredWith, doneWith, editedWith, gotWith, orderedWith};
+ghost use Rattle.served.specs.Served.{refusedWith, answeredWith, servedDone, editedWith, gotWith, orderedWith};
 
 // What a frame is answered, how many nodes are free then, and what stands in the one version record that it may change.
 pub struct Served {
@@ -54,7 +54,7 @@ fn low_byte(n: u32) -> u8
 }
 
 fn done(e: Edit) -> Served
-    ensures { λ r. ⌜ r ≡ doneWith e ⌝ }
+    ensures { λ r. ⌜ r ≡ servedDone e ⌝ }
 {
     let version = e.version;
     Served {

@@ -42,7 +42,7 @@ bytes k (n ∷ ns) = toBytes k n ++ bytes k ns
 
 -- the answer bytes to request bytes
 unfoldable pub answersTo : Lent → (requests : List ℕ) → List ℕ
-unfolding framesIn answerBytes leadingZeros serveAll meaningCounting.sumTo meaningCounting.howMany meaningCounting.occurrences meaningCounting.rows meaningCounting.divides meaningLent.isFree meaningLent.freeNodes meaningLent.freeOrder meaningLent.childCount meaningLent.walkRecord meaningLent.walkRecords meaningShape.degree meaningShape.bitsToWrite meaningShape.ifLeft meaningShape.levels meaningShape.height meaningShape.bucket meaningShape.mask meaningShape.rootMaxCapacity meaningShape.isRootFull meaningTrees.Shaped meaningTrees.element meaningTrees.contents meaningFresh.downFrom meaningFresh.freshState meaningFrames.fromBytes meaningFrames.toBytes meaningFrames.decode meaningFrames.encode meaningOperations.operations meaningOperations.opOf meaningOperations.anyone meaningOperations.hostAlone meaningOperations.uses meaningOperations.ownerOr meaningOperations.giver meaningOperations.taker meaningCosts.dropFresh meaningCosts.plain meaningCosts.newCost meaningCosts.pushCost meaningCosts.setCost meaningCosts.dropCost meaningCosts.priced meaningCosts.cost meaningSupply.isShort meaningChecks.noFault meaningChecks.faults meaningChecks.anyField meaningChecks.nothingThere meaningChecks.isFull meaningChecks.sourceOf meaningChecks.leftOf meaningChecks._if_ meaningChecks.entryChecks meaningChecks.findChecks meaningChecks.earlierChecks meaningChecks.nodesCheck meaningChecks.checks meaningChecks.firstOf meaningServe.refused meaningServe.respond meaningServe.step meaningServe.serve meaningServe.run cellsCells.cellsOf cellsCells.putCells storeStore.childrenOf storeStore.writeNode storeStore.top storeStore.make storeStore.raise storeStore.raises sweepSweep.lowerFrom sweepSweep.lower sweepSweep.lowers sweepSweep.vacate sweepSweep.scan sweepSweep.sweep sweepSweep.release pathsPaths.source pathsPaths.leafWith pathsPaths.branchWith pathsPaths.assoc pathsPaths.grow pathsPaths.leafCut pathsPaths.branchCut pathsPaths.dropLast pathsEdits.emptyLeaf pathsEdits.newEdit pathsEdits.shareEdit pathsEdits.setEdit pathsEdits.pushEdit pathsEdits.firstChild pathsEdits.dropEdit indexIndex.first indexIndex.advanced indexIndex.finished indexIndex.place levelLevel.currentAt levelLevel.pushed levelLevel.popped levelLevel.dug levelLevel.indexAfter levelLevel.steppedAt levelLevel.endedAt levelsLevels.renewed levelsLevels.advancedBy levelsLevels.dugDown levelsLevels.initialised levelsLevels.oneTaken walkWalk.versionIn walkWalk.stored walkWalk.opened walkWalk.clearedFrom walkWalk.closed walkWalk.isEnded walkWalk.takenOf walkWalk.takenBy framesRun.versionIn framesRun.walkIn framesRun.seenIn framesServe.fills framesServe.empties framesServe.itemAt framesServe.opens framesServe.gotOf framesServe.takes framesServe.closes framesServe.done framesServe.verdict framesServe.freshIn framesServe.respond framesServe.serve
+unfolding framesIn answerBytes leadingZeros serveAll meaningCounting.sumTo meaningCounting.howMany meaningCounting.occurrences meaningCounting.rows meaningCounting.divides meaningLent.isFree meaningLent.freeNodes meaningLent.freeOrder meaningLent.childCount meaningLent.walkRecord meaningLent.walkRecords meaningShape.degree meaningShape.bitsToWrite meaningShape.ifLeft meaningShape.levels meaningShape.height meaningShape.bucket meaningShape.mask meaningShape.rootMaxCapacity meaningShape.isRootFull meaningTrees.Shaped meaningTrees.element meaningTrees.contents meaningFresh.downFrom meaningFresh.freshState meaningFrames.fromBytes meaningFrames.toBytes meaningFrames.decode meaningFrames.encode meaningOperations.operations meaningOperations.opOf meaningOperations.anyone meaningOperations.hostAlone meaningOperations.uses meaningOperations.ownerOr meaningOperations.giver meaningOperations.taker meaningCosts.dropFresh meaningCosts.plain meaningCosts.newCost meaningCosts.pushCost meaningCosts.setCost meaningCosts.dropCost meaningCosts.priced meaningCosts.cost meaningSupply.isShort meaningChecks.noFault meaningChecks.faults meaningChecks.anyField meaningChecks.nothingThere meaningChecks.isFull meaningChecks.sourceOf meaningChecks.leftOf meaningChecks._if_ meaningChecks.entryChecks meaningChecks.findChecks meaningChecks.earlierChecks meaningChecks.nodesCheck meaningChecks.checks meaningChecks.firstOf meaningServe.refused meaningServe.respond meaningServe.step meaningServe.serve meaningServe.run cellsCells.cellsOf cellsCells.putCells storeStore.childrenOf storeStore.writeNode storeStore.top storeStore.make storeStore.raise storeStore.raises sweepSweep.lowerFrom sweepSweep.lower sweepSweep.lowers sweepSweep.vacate sweepSweep.scan sweepSweep.sweep sweepSweep.release pathsPaths.source pathsPaths.leafWith pathsPaths.branchWith pathsPaths.assoc pathsPaths.grow pathsPaths.leafCut pathsPaths.branchCut pathsPaths.dropLast pathsEdits.emptyLeaf pathsEdits.newEdit pathsEdits.shareEdit pathsEdits.setEdit pathsEdits.pushEdit pathsEdits.firstChild pathsEdits.dropEdit indexIndex.first indexIndex.advanced indexIndex.finished indexIndex.place levelLevel.currentAt levelLevel.pushed levelLevel.popped levelLevel.dug levelLevel.indexAfter levelLevel.steppedAt levelLevel.endedAt levelsLevels.renewed levelsLevels.advancedBy levelsLevels.dugDown levelsLevels.initialised levelsLevels.oneTaken walkWalk.versionOfWalk walkWalk.stored walkWalk.opened walkWalk.clearedFrom walkWalk.closed walkWalk.isEnded walkWalk.takenOf walkWalk.takenBy framesRun.versionIn framesRun.walkIn framesRun.seenIn framesServe.fills framesServe.empties framesServe.itemAt framesServe.opens framesServe.gotOf framesServe.takes framesServe.closes framesServe.done framesServe.verdict framesServe.freshIn framesServe.respond framesServe.serve
 answersTo s requests = answerBytes (replies s (framesIn (length requests / frameSize) requests))
 
 -- the session of document 01, over as many nodes as the program has

@@ -10,7 +10,7 @@ use Rattle.meaning.specs.Table.{Table}
 use Rattle.meaning.specs.Stands.{tableOf}
 use Rattle.meaning.specs.Frames.{Frame}
 use Rattle.meaning.specs.Serve.{Reply, run}
-use Rattle.isolation.specs.Demand3.{answersTo, strikeOut, framesIn, partyByParty, withoutLimit, Own}
+use Rattle.isolation.specs.Demand3.{answersTo, strikeOut, framesAsked, partyByParty, withoutLimit, Own}
 use Rattle.serving.specs.Lending.{afterAll, replies}
 
 module _ (s : Lent) (fs : List Frame) where
@@ -20,7 +20,7 @@ module _ (s : Lent) (fs : List Frame) where
 
   -- the frames of those on the plain table, party by party, with no limit of nodes
   abbrev pub apart : Table × List Reply
-  apart = run (withoutLimit (partyByParty parties (framesIn left))) (tableOf s)
+  apart = run (withoutLimit (partyByParty parties (framesAsked left))) (tableOf s)
 
   pub record Isolated : Type 0 where
     pub tables : tableOf (afterAll s fs) ≡ apart .0

@@ -18,7 +18,7 @@ use Rattle.meaning.proofs.Reaching.{shaped-used}
 use Rattle.cells.specs.Cells.{cellsOf}
 use Rattle.store.specs.Store.{Store}
 use Rattle.paths.specs.Paths.{dropLast}
-use Rattle.paths.specs.Edits.{edit, versionOf, emptyLeaf, shareEdit, firstChild, dropEdit}
+use Rattle.paths.specs.Edits.{edit, liveRecord, emptyLeaf, shareEdit, firstChild, dropEdit}
 use Rattle.shape.proofs.Powers.{power-positive}
 use Rattle.shape.proofs.Capacity.{height-holds}
 use Rattle.shape.proofs.Growth.{height-drop}
@@ -61,7 +61,7 @@ pub first-edits : (s : Store) (v : VersionRecord) (k : ℕ) → Live (s .nodes) 
     → Edited s 0 k (take (v .length - 1) (contents (s .nodes) v)) (edit (firstChild s (v .root)) (v .bits) (v .length - 1))
 unfolding firstChild shareEdit contents
 first-edits s v k l z e = record {
-  rooted = shared (versionOf c (v .bits) (v .length - 1)) (shaped-used (s .nodes) (v .bits) h (v .length - 1) c first);
+  rooted = shared (liveRecord c (v .bits) (v .length - 1)) (shaped-used (s .nodes) (v .bits) h (v .length - 1) c first);
   extends = extends-refl (s .nodes);
   stock = raised-stocks s k (c ∷ []) z;
   order = refl;

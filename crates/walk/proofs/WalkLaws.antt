@@ -18,7 +18,7 @@ use Rattle.records.specs.declared.Version.{Version}
 use Rattle.lookup.specs.declared.Got.the-variants.{Element, Nothing}
 use Rattle.level.specs.Level.{Levels, levels, popped}
 use Rattle.levels.specs.Levels.{HasStack, took, oneTaken}
-use Rattle.walk.specs.Walk.{slices, numberAt, versionIn, Walkable, stored, clearedFrom, closed, isEnded, stepped, takenAt, takenOf, takenBy}
+use Rattle.walk.specs.Walk.{slices, numberAt, versionOfWalk, Walkable, stored, clearedFrom, closed, isEnded, stepped, takenAt, takenOf, takenBy}
 
 -- ---- the numbers
 
@@ -29,16 +29,16 @@ unfolding stored
 stores ns n v = rw add-zero
 
 pub reads-version : (ns : List ℕ) (n : ℕ)
-    → record { live = getD ns (walkNumbers * n) 0; root = numberAt ns n 1; bits = numberAt ns n 2; length = numberAt ns n 3 } ≡ versionIn ns n
-unfolding versionIn
+    → record { live = getD ns (walkNumbers * n) 0; root = numberAt ns n 1; bits = numberAt ns n 2; length = numberAt ns n 3 } ≡ versionOfWalk ns n
+unfolding versionOfWalk
 reads-version ns n = rw add-zero
 
 pub side-is : (b : Bool) → (boolByte b ≡ bit b) × (boolByte b ≤ 1)
 side-is true = (refl, omega arith)
 side-is false = (refl, omega arith)
 
-pub has-stack : (ns : List ℕ) (n s : ℕ) (r : Version) → recordOf r ≡ versionIn ns n → Walkable ns n → s ≤ 1 → HasStack (r .bits) (r .length) (walkLevels * (2 * n + s))
-unfolding versionIn
+pub has-stack : (ns : List ℕ) (n s : ℕ) (r : Version) → recordOf r ≡ versionOfWalk ns n → Walkable ns n → s ≤ 1 → HasStack (r .bits) (r .length) (walkLevels * (2 * n + s))
+unfolding versionOfWalk
 has-stack ns n s r e q l =
     let b : r .bits ≡ numberAt ns n 2 = ap (λ (v : VersionRecord). v .bits) e in
     let m : r .length ≡ numberAt ns n 3 = ap (λ (v : VersionRecord). v .length) e in
@@ -84,7 +84,7 @@ pub takes-nothing : (cs us : List ℕ) (b : Bool) (ws : WalkSlices) (n : ℕ) (r
 unfolding takenBy
 takes-nothing cs us b ws n r p t = rw (← p, t)
 
-taken-is : (cs us : List ℕ) (b : Bool) (ns nodes : List ℕ) (is : List ℤ) (n : ℕ) (v : Version) (s : ℕ) → recordOf v ≡ versionIn ns n → s ≡ bit b
+taken-is : (cs us : List ℕ) (b : Bool) (ns nodes : List ℕ) (is : List ℤ) (n : ℕ) (v : Version) (s : ℕ) → recordOf v ≡ versionOfWalk ns n → s ≡ bit b
     → oneTaken cs us b (getD ns (walkNumbers * n + 4 + s) 0) (v .root) (heightOf (recordOf v)) (levels nodes is) (walkLevels * (2 * n + s)) ≡ takenOf cs us b (slices ns nodes is) n
 unfolding takenOf
 taken-is cs us b ns nodes is n v s e q =
@@ -92,7 +92,7 @@ taken-is cs us b ns nodes is n v s e q =
     ∙ rw (number-place n s b q, q)
 
 pub takes-one : (cs us : List ℕ) (b : Bool) (ns nodes nodes' : List ℕ) (is is' : List ℤ) (n : ℕ) (r : Bool) (v : Version) (s x : ℕ)
-    → r ≡ isEnded ns n → r ≡ false → recordOf v ≡ versionIn ns n → s ≡ bit b
+    → r ≡ isEnded ns n → r ≡ false → recordOf v ≡ versionOfWalk ns n → s ≡ bit b
     → took (levels nodes' is') x ≡ oneTaken cs us b (getD ns (walkNumbers * n + 4 + s) 0) (v .root) (heightOf (recordOf v)) (levels nodes is) (walkLevels * (2 * n + s))
     → stepped (slices (set ns (walkNumbers * n + 4 + s) (getD ns (walkNumbers * n + 4 + s) 0 + 1)) nodes' is') (Element x) ≡ takenBy cs us b (slices ns nodes is) n
 unfolding takenBy

@@ -28,8 +28,8 @@ levelsOf ws = levels (ws .nodes) (ws .indices)
 abbrev pub numberAt : (numbers : List ℕ) → (n k : ℕ) → ℕ
 numberAt ns n k = getD ns (walkNumbers * n + k) 0
 
-unfoldable pub versionIn : (numbers : List ℕ) → (n : ℕ) → VersionRecord
-versionIn ns n = record { live = numberAt ns n 0; root = numberAt ns n 1; bits = numberAt ns n 2; length = numberAt ns n 3 }
+unfoldable pub versionOfWalk : (numbers : List ℕ) → (n : ℕ) → VersionRecord
+versionOfWalk ns n = record { live = numberAt ns n 0; root = numberAt ns n 1; bits = numberAt ns n 2; length = numberAt ns n 3 }
 
 -- what is asked of callers
 pub record Walkable (numbers : List ℕ) (n : ℕ) : Type 0 where
@@ -84,7 +84,7 @@ stackAt n b = walkLevels * (2 * n + bit b)
 
 unfoldable pub takenOf : (cells used : List ℕ) → (back : Bool) → WalkSlices → (n : ℕ) → Taken
 takenOf cs us b ws n =
-    let v = versionIn (ws .numbers) n in
+    let v = versionOfWalk (ws .numbers) n in
     oneTaken cs us b (takenAt (ws .numbers) n b) (v .root) (heightOf v) (levelsOf ws) (stackAt n b)
 
 unfoldable pub takenBy : (cells used : List ℕ) → (back : Bool) → WalkSlices → (n : ℕ) → Step

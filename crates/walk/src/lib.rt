@@ -12,7 +12,7 @@ ghost use Rattle.meaning.specs.Counting.{bit};
 ghost use Rattle.meaning.specs.Limits.{walkCount, walkLevels, places};
 ghost use Rattle.records.specs.Records.{recordOf};
 ghost use Rattle.level.specs.Level.{levels};
-ghost use Rattle.walk.specs.Walk.{slices, stored, openRecord, isEnded, versionIn, clearedFrom, closed, Walkable, numberAt, stepped, takenBy, passedOn, Passable, Staying};
+ghost use Rattle.walk.specs.Walk.{slices, stored, openRecord, isEnded, versionOfWalk, clearedFrom, closed, Walkable, numberAt, stepped, takenBy, passedOn, Passable, Staying};
 ghost use mathlib.Core.List.{List};
 
 // ---- opening and closing
@@ -78,7 +78,7 @@ pub fn close(
 
 pub fn version(numbers: &[u32; ALL_NUMBERS], n: u32) -> Version
     requires { ⌜ n < walkCount ⌝ }
-    ensures { λ r. ⌜ recordOf r ≡ versionIn (now (numbers .entry)) n ⌝ }
+    ensures { λ r. ⌜ recordOf r ≡ versionOfWalk (now (numbers .entry)) n ⌝ }
 {
     let at = WALK_NUMBERS * (n as usize);
     Version {

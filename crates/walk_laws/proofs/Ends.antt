@@ -22,7 +22,7 @@ use Rattle.walk_laws.specs.Stack.{Moved, moves, current, begun, digging,
 use Rattle.walk_laws.proofs.Ways.{way-length, element-current}
 use Rattle.walk_laws.proofs.Forward as fore
 use Rattle.walk_laws.proofs.Backward as hind
-use Rattle.walk_laws.specs.Took.{Sized}
+use Rattle.walk_laws.specs.Took.{LevelsFit}
 use Rattle.walk_laws.proofs.Places.{pushed-put, put-sized, initialised-sized, taken-outside}
 use Rattle.walk_laws.proofs.Seen.{stackIn, stack-length, stack-same, stack-split, current-seen, step-seen, digs-seen, begun-seen}
 
@@ -112,7 +112,7 @@ module _ (s : Nodes) (v : VersionRecord) (live : Live s v) (b : Bool) (t : ℕ) 
           let n : v .length ≡ suc (v .length - 1 - t) = omega arith in
           hind.digs-last s (v .bits) (heightOf v) (v .length - 1 - t) (v .root) [] (hind.resize s (v .bits) (heightOf v) _ _ (v .root) n (live .shape))
 
-  module _ (w : Levels) (k : ℕ) (z : Sized w) (room : k + walkLevels ≤ places) where
+  module _ (w : Levels) (k : ℕ) (z : LevelsFit w) (room : k + walkLevels ≤ places) where
     abbrev there : Levels
     there = initialised (s .cells) (s .used) b t (v .root) (heightOf v) w k
 
@@ -143,7 +143,7 @@ module _ (s : Nodes) (v : VersionRecord) (live : Live s v) (b : Bool) (t : ℕ) 
     begins e =
         let one : suc (heightOf v) ≡ heightOf v + 1 = omega arith in
         let u : Levels = pushed (s .used) b w (k + heightOf v) (v .root) in
-        let zu : Sized (pushed (s .used) b w (k + heightOf v) (v .root)) = rw (pushed-put (s .used) b w (k + heightOf v) (v .root)) (put-sized w (k + heightOf v) _ z) in
+        let zu : LevelsFit (pushed (s .used) b w (k + heightOf v) (v .root)) = rw (pushed-put (s .used) b w (k + heightOf v) (v .root)) (put-sized w (k + heightOf v) _ z) in
         rw (eq-eqb t 0 e, one)
         (digs-seen (s .cells) (s .used) b (heightOf v) 1 u k zu (omega (arith, levels-fit)) (omega arith)
         ∙ (ap (digging (s .cells) (s .used) b (heightOf v)) (begun-seen (s .cells) (s .used) b w (k + heightOf v) (v .root) z (omega (arith, levels-fit)))

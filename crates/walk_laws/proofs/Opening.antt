@@ -17,7 +17,7 @@ use Rattle.meaning.specs.Stands.{leftBetween}
 use Rattle.lookup.proofs.Found.{contents-length}
 use Rattle.level.specs.Level.{Levels, popped}
 use Rattle.walk.specs.Walk.{levelsOf, openRecord, opened, clearedFrom, closed}
-use Rattle.walk_laws.specs.Took.{Sized, SlicesFit, Opened, Closed}
+use Rattle.walk_laws.specs.Took.{LevelsFit, SlicesFit, Opened, Closed}
 use Rattle.walk_laws.proofs.Places.{levelIn, Outside, put-here, put-other, put-sized, popped-put}
 use Rattle.walk_laws.proofs.Seen.{stackIn, stack-same}
 use Rattle.walk_laws.proofs.Records.{stackOf, readRecord, record-read, same-read}
@@ -69,7 +69,7 @@ module _ (s : Nodes) (ws : WalkSlices) (n : ℕ) (v : VersionRecord) (fits : Sli
 
 -- ---- closing
 
-cleared-sized : (c : ℕ) (w : Levels) (k : ℕ) → Sized w → Sized (clearedFrom c w k)
+cleared-sized : (c : ℕ) (w : Levels) (k : ℕ) → LevelsFit w → LevelsFit (clearedFrom c w k)
 unfolding clearedFrom
 cleared-sized zero w k z = z
 cleared-sized (suc c) w k z = cleared-sized c (popped w k) (k + 1) (rw (popped-put w k) (put-sized w k noLevel z))
@@ -80,11 +80,11 @@ cleared-outside zero w k i o = refl
 cleared-outside (suc c) w k i o =
     cleared-outside c (popped w k) (k + 1) i (λ j a e. o j (omega arith) (omega arith)) ∙ rw (popped-put w k) (put-other w k i noLevel (o k (omega arith) (omega arith)))
 
-cleared-inside : (c : ℕ) (w : Levels) (k i : ℕ) → Sized w → k + c ≤ places → k ≤ i → i < k + c → levelIn (clearedFrom c w k) i ≡ noLevel
+cleared-inside : (c : ℕ) (w : Levels) (k i : ℕ) → LevelsFit w → k + c ≤ places → k ≤ i → i < k + c → levelIn (clearedFrom c w k) i ≡ noLevel
 unfolding clearedFrom
 cleared-inside zero w k i z r l g = absurd (lt-irrefl zero (omega arith))
 cleared-inside (suc c) w k i z r l g =
-    let zp : Sized (popped w k) = rw (popped-put w k) (put-sized w k noLevel z) in
+    let zp : LevelsFit (popped w k) = rw (popped-put w k) (put-sized w k noLevel z) in
     ⊎-elim
     (λ e. cleared-outside c (popped w k) (k + 1) i (λ j a b f. lt-irrefl zero (omega arith)) ∙ rw (← e, popped-put w k) (put-here w k noLevel z (omega arith)))
     (λ h. cleared-inside c (popped w k) (k + 1) i zp (omega arith) (omega arith) (omega arith))

@@ -14,7 +14,7 @@ use Rattle.meaning.specs.Lent.{Level, noLevel}
 use Rattle.level.specs.Level.{Levels, levels, currentAt, pushed, popped, dug, indexAfter, steppedAt, endedAt}
 use Rattle.levels.specs.Levels.{Out, renewed, advancedBy, dugDown, initialised, oneTaken}
 use Rattle.walk_laws.specs.Stack.{begun}
-use Rattle.walk_laws.specs.Took.{Sized}
+use Rattle.walk_laws.specs.Took.{LevelsFit}
 
 abbrev pub levelIn : Levels → (k : ℕ) → Level
 levelIn w k = record { node = getD (w .nodes) k 0; index = getD (w .indices) k (pos 0) }
@@ -28,13 +28,13 @@ Outside k m i = (j : ℕ) → k ≤ j → j < k + m → i ≢ j
 abbrev pub put : Levels → (k : ℕ) → Level → Levels
 put w k l = levels (set (w .nodes) k (l .node)) (set (w .indices) k (l .index))
 
-pub put-here : (w : Levels) (k : ℕ) (l : Level) → Sized w → k < places → levelIn (put w k l) k ≡ l
+pub put-here : (w : Levels) (k : ℕ) (l : Level) → LevelsFit w → k < places → levelIn (put w k l) k ≡ l
 put-here w k l z h = rw (getD-set-same (w .nodes) k (l .node) 0 (omega (arith, z .nodes)), getD-set-same (w .indices) k (l .index) (pos 0) (omega (arith, z .indices)))
 
 pub put-other : (w : Levels) (k i : ℕ) (l : Level) → i ≢ k → levelIn (put w k l) i ≡ levelIn w i
 put-other w k i l ne = rw (getD-set-other (w .nodes) k i (l .node) 0 ne, getD-set-other (w .indices) k i (l .index) (pos 0) ne)
 
-pub put-sized : (w : Levels) (k : ℕ) (l : Level) → Sized w → Sized (put w k l)
+pub put-sized : (w : Levels) (k : ℕ) (l : Level) → LevelsFit w → LevelsFit (put w k l)
 put-sized w k l z = record { nodes = length-set (w .nodes) k (l .node) ∙ z .nodes; indices = length-set (w .indices) k (l .index) ∙ z .indices }
 
 pub pushed-put : (us : List ℕ) (b : Bool) (w : Levels) (k n : ℕ) → pushed us b w k n ≡ put w k (begun us b n)
@@ -98,26 +98,26 @@ module _ (cs us : List ℕ) (b : Bool) (P : Levels → Type 0) where
       by false = p
 
 -- the lengths, and the levels outside
-sized-kept : (k m : ℕ) → Keeps Sized k m
+sized-kept : (k m : ℕ) → Keeps LevelsFit k m
 sized-kept k m = record { keeps = λ w j l a c z. put-sized w j l z }
 
 level-kept : (k m i : ℕ) (v : Level) → Outside k m i → Keeps (λ w. levelIn w i ≡ v) k m
 level-kept k m i v o = record { keeps = λ w j l a c e. put-other w j i l (o j a c) ∙ e }
 
 module _ (cs us : List ℕ) (b : Bool) where
-  pub step-sized : (m : ℕ) (w : Levels) (k : ℕ) → Sized w → Sized (advancedBy cs us b m w k .levels)
-  step-sized m w k z = step-keeps cs us b Sized m w k (sized-kept k m) z
+  pub step-sized : (m : ℕ) (w : Levels) (k : ℕ) → LevelsFit w → LevelsFit (advancedBy cs us b m w k .levels)
+  step-sized m w k z = step-keeps cs us b LevelsFit m w k (sized-kept k m) z
 
   step-outside : (m : ℕ) (w : Levels) (k i : ℕ) → Outside k m i → levelIn (advancedBy cs us b m w k .levels) i ≡ levelIn w i
   step-outside m w k i o = step-keeps cs us b (λ v. levelIn v i ≡ levelIn w i) m w k (level-kept k m i (levelIn w i) o) refl
 
-  pub initialised-sized : (taken root h : ℕ) (w : Levels) (k : ℕ) → Sized w → Sized (initialised cs us b taken root h w k)
-  initialised-sized taken root h w k z = initialised-keeps cs us b Sized taken root h w k (sized-kept k (suc h)) z
+  pub initialised-sized : (taken root h : ℕ) (w : Levels) (k : ℕ) → LevelsFit w → LevelsFit (initialised cs us b taken root h w k)
+  initialised-sized taken root h w k z = initialised-keeps cs us b LevelsFit taken root h w k (sized-kept k (suc h)) z
 
   initialised-outside : (taken root h : ℕ) (w : Levels) (k i : ℕ) → Outside k (suc h) i → levelIn (initialised cs us b taken root h w k) i ≡ levelIn w i
   initialised-outside taken root h w k i o = initialised-keeps cs us b (λ v. levelIn v i ≡ levelIn w i) taken root h w k (level-kept k (suc h) i (levelIn w i) o) refl
 
-  pub taken-sized : (t root h : ℕ) (w : Levels) (k : ℕ) → Sized w → Sized (oneTaken cs us b t root h w k .levels)
+  pub taken-sized : (t root h : ℕ) (w : Levels) (k : ℕ) → LevelsFit w → LevelsFit (oneTaken cs us b t root h w k .levels)
   unfolding oneTaken
   taken-sized t root h w k z = step-sized (suc h) (initialised cs us b t root h w k) k (initialised-sized t root h w k z)
 

@@ -16,7 +16,7 @@ use Rattle.meaning.specs.WellFormed.{SizesFit}
 use Rattle.lookup.specs.declared.Got.the-variants.{Element}
 use Rattle.level.specs.Level.{Levels}
 use Rattle.levels.specs.Levels.{Taken}
-use Rattle.walk.specs.Walk.{slices, levelsOf, numberAt, versionIn, isEnded, stepped, takenAt, stackAt, takenOf, takenBy}
+use Rattle.walk.specs.Walk.{slices, levelsOf, numberAt, versionOfWalk, isEnded, stepped, takenAt, stackAt, takenOf, takenBy}
 use Rattle.walk_laws.specs.Took.{SlicesFit}
 use Rattle.walk_laws.proofs.Places.{taken-sized, taken-outside}
 use Rattle.walk_laws.proofs.Seen.{stackIn, stack-same, stack-rows}
@@ -32,7 +32,7 @@ stackOf w q = stackIn walkLevels w (walkLevels * q)
 abbrev pub readRecord : WalkSlices → (n : ℕ) → WalkRecord
 readRecord ws n =
     record {
-      version = versionIn (ws .numbers) n;
+      version = versionOfWalk (ws .numbers) n;
       front = numberAt (ws .numbers) n 4;
       back = numberAt (ws .numbers) n 5;
       forward = stackOf (levelsOf ws) (2 * n + 0);
@@ -43,7 +43,7 @@ rows-are : (ws : WalkSlices) (q p : ℕ) → q ≡ p → rows walkLevels (levelO
 rows-are ws q p e = stack-rows walkLevels (levelOf ws q) (levelsOf ws) (walkLevels * p) (λ i. rw e)
 
 pub record-read : (ws : WalkSlices) (n : ℕ) → walkRecord ws n ≡ readRecord ws n
-unfolding walkRecord versionIn
+unfolding walkRecord versionOfWalk
 record-read ws n =
     let f : 2 * n ≡ 2 * n + 0 = omega arith in
     rw (rows-are ws (2 * n) (2 * n + 0) f, rows-are ws (2 * n + 1) (2 * n + 1) refl)
@@ -53,7 +53,7 @@ record-read ws n =
 -- two walks are read alike if their numbers and levels are
 pub same-read : (v w : WalkSlices) (n : ℕ) → ((k : ℕ) → k < walkNumbers → numberAt (v .numbers) n k ≡ numberAt (w .numbers) n k)
     → ((q : ℕ) → 2 * n ≤ q → q ≤ 2 * n + 1 → stackOf (levelsOf v) q ≡ stackOf (levelsOf w) q) → readRecord v n ≡ readRecord w n
-unfolding versionIn
+unfolding versionOfWalk
 same-read v w n f g =
     rw (f 0 (omega arith), f 1 (omega arith), f 2 (omega arith), f 3 (omega arith), f 4 (omega arith), f 5 (omega arith), g (2 * n + 0) (omega arith) (omega arith), g (2 * n + 1) (omega arith) (omega arith))
 
@@ -63,7 +63,7 @@ bit-small false = omega arith
 
 -- ---- one element taken
 
-module _ (cs us : List ℕ) (b : Bool) (ws : WalkSlices) (n : ℕ) (fits : SlicesFit ws) (in-range : n < walkCount) (low : heightOf (versionIn (ws .numbers) n) < walkLevels) where
+module _ (cs us : List ℕ) (b : Bool) (ws : WalkSlices) (n : ℕ) (fits : SlicesFit ws) (in-range : n < walkCount) (low : heightOf (versionOfWalk (ws .numbers) n) < walkLevels) where
   abbrev pub taken : Taken
   taken = takenOf cs us b ws n
 
@@ -84,11 +84,11 @@ module _ (cs us : List ℕ) (b : Bool) (ws : WalkSlices) (n : ℕ) (fits : Slice
   unfolding takenOf
   stack-other q ne =
       stack-same walkLevels (levelsOf after) (levelsOf ws) (walkLevels * q)
-      (λ i l g. taken-outside cs us b (takenAt (ws .numbers) n b) (versionIn (ws .numbers) n .root) (heightOf (versionIn (ws .numbers) n)) (levelsOf ws) (stackAt n b) i
+      (λ i l g. taken-outside cs us b (takenAt (ws .numbers) n b) (versionOfWalk (ws .numbers) n .root) (heightOf (versionOfWalk (ws .numbers) n)) (levelsOf ws) (stackAt n b) i
       (λ j a c e. ne (omega (arith, low))))
 
-  pub version-kept : versionIn (after .numbers) n ≡ versionIn (ws .numbers) n
-  unfolding versionIn
+  pub version-kept : versionOfWalk (after .numbers) n ≡ versionOfWalk (ws .numbers) n
+  unfolding versionOfWalk
   version-kept =
       rw (number-other n 0 (λ e. lt-irrefl zero (omega arith)), number-other n 1 (λ e. lt-irrefl zero (omega arith)), number-other n 2 (λ e. lt-irrefl zero (omega arith)), number-other n 3 (λ e. lt-irrefl zero (omega arith)))
 
@@ -103,5 +103,5 @@ module _ (cs us : List ℕ) (b : Bool) (ws : WalkSlices) (n : ℕ) (fits : Slice
   sizes-kept =
       record {
         numbers = length-set (ws .numbers) (walkNumbers * n + (4 + bit b)) _ ∙ fits .numbers;
-        levels = taken-sized cs us b (takenAt (ws .numbers) n b) (versionIn (ws .numbers) n .root) (heightOf (versionIn (ws .numbers) n)) (levelsOf ws) (stackAt n b) (fits .levels);
+        levels = taken-sized cs us b (takenAt (ws .numbers) n b) (versionOfWalk (ws .numbers) n .root) (heightOf (versionOfWalk (ws .numbers) n)) (levelsOf ws) (stackAt n b) (fits .levels);
       }

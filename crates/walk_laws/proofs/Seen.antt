@@ -13,7 +13,7 @@ use Rattle.level.specs.Level.{Levels, currentAt, pushed, popped, dug, indexAfte
 use Rattle.levels.specs.Levels.{Out, out, renewed, advancedBy, dugDown}
 use Rattle.levels.proofs.StackLaws.{has-level}
 use Rattle.walk_laws.specs.Stack.{Moved, moves, current, begun, digging, emptied, renewing, advancing}
-use Rattle.walk_laws.specs.Took.{Sized}
+use Rattle.walk_laws.specs.Took.{LevelsFit}
 use Rattle.walk_laws.proofs.Places.{levelIn, put, put-here, put-other, put-sized, pushed-put, dug-put, popped-put, steppedLevel, stepped-put, step-sized}
 
 -- the m levels from place k
@@ -54,7 +54,7 @@ stack-rows (suc m) f w k h =
 
 -- ---- a changed level
 
-pub put-seen : (m : ℕ) (w : Levels) (k : ℕ) (l : Level) → Sized w → k < places → stackIn (suc m) (put w k l) k ≡ l ∷ stackIn m w (k + 1)
+pub put-seen : (m : ℕ) (w : Levels) (k : ℕ) (l : Level) → LevelsFit w → k < places → stackIn (suc m) (put w k l) k ≡ l ∷ stackIn m w (k + 1)
 unfolding stackIn
 put-seen m w k l z h =
     ap (λ (x : Level). x ∷ stackIn m (put w k l) (k + 1)) (put-here w k l z h)
@@ -83,12 +83,12 @@ module _ (cs us : List ℕ) (b : Bool) where
   current-seen zero w k l = absurd (lt-irrefl zero l)
   current-seen (suc m) w k l = refl
 
-  dug-seen : (m : ℕ) (w : Levels) (k : ℕ) → 0 < m → Sized w → k < places → stackIn (suc m) (dug cs us b w k) k ≡ digging cs us b 1 (stackIn m w (k + 1))
+  dug-seen : (m : ℕ) (w : Levels) (k : ℕ) → 0 < m → LevelsFit w → k < places → stackIn (suc m) (dug cs us b w k) k ≡ digging cs us b 1 (stackIn m w (k + 1))
   unfolding digging
   dug-seen m w k l z h =
       rw (dug-put cs us b w k) (put-seen m w k (begun us b (currentAt cs w (k + 1))) z h ∙ ap (λ (x : ℕ). begun us b x ∷ stackIn m w (k + 1)) (current-seen m w (k + 1) l))
 
-  renewed-seen : (m : ℕ) (r : Out) (k : ℕ) → (r .on ≡ true → 0 < m) → Sized (r .levels) → k < places → seen (suc m) (renewed cs us b r k) k ≡ renewing cs us b 1 (seen m r (k + 1))
+  renewed-seen : (m : ℕ) (r : Out) (k : ℕ) → (r .on ≡ true → 0 < m) → LevelsFit (r .levels) → k < places → seen (suc m) (renewed cs us b r k) k ≡ renewing cs us b 1 (seen m r (k + 1))
   unfolding renewed renewing emptied
   renewed-seen m r k o z h =
       cond-seen (suc m) (r .on) (out (dug cs us b (r .levels) k) true) (out (popped (r .levels) k) false) k
@@ -96,13 +96,13 @@ module _ (cs us : List ℕ) (b : Bool) where
       (ap (λ (st : List Level). moves st false) (rw (popped-put (r .levels) k) (put-seen m (r .levels) k noLevel z h)))
 
   -- a step of the lists is a step of the stack
-  pub step-seen : (m : ℕ) (w : Levels) (k : ℕ) → Sized w → k + m ≤ places → seen m (advancedBy cs us b m w k) k ≡ advancing cs us b (stackIn m w k)
+  pub step-seen : (m : ℕ) (w : Levels) (k : ℕ) → LevelsFit w → k + m ≤ places → seen m (advancedBy cs us b m w k) k ≡ advancing cs us b (stackIn m w k)
   unfolding advancedBy advancing stackIn endedAt indexAfter
   step-seen zero w k z h = refl
   step-seen (suc m) w k z h =
       let v = steppedAt b w k in
       let e : steppedAt b w k ≡ put w k (steppedLevel b w k) = stepped-put b w k in
-      let zv : Sized (steppedAt b w k) = rw e (put-sized w k (steppedLevel b w k) z) in
+      let zv : LevelsFit (steppedAt b w k) = rw e (put-sized w k (steppedLevel b w k) z) in
       let above : stackIn m (steppedAt b w k) (k + 1) ≡ stackIn m w (k + 1) = rw e (above-same m w k (steppedLevel b w k)) in
       let ih : seen m (advancedBy cs us b m (steppedAt b w k) (k + 1)) (k + 1) ≡ advancing cs us b (stackIn m w (k + 1))
       = step-seen m (steppedAt b w k) (k + 1) zv (omega arith) ∙ ap (advancing cs us b) above in
@@ -114,7 +114,7 @@ module _ (cs us : List ℕ) (b : Bool) where
 
   -- ---- the stack at its first use
 
-  pub digs-seen : (j r : ℕ) (w : Levels) (k : ℕ) → Sized w → k + j + r ≤ places → 0 < r → stackIn (j + r) (dugDown cs us b j w k) k ≡ digging cs us b j (stackIn r w (k + j))
+  pub digs-seen : (j r : ℕ) (w : Levels) (k : ℕ) → LevelsFit w → k + j + r ≤ places → 0 < r → stackIn (j + r) (dugDown cs us b j w k) k ≡ digging cs us b j (stackIn r w (k + j))
   unfolding dugDown digging
   digs-seen zero r w k z h l =
       let e : 0 + r ≡ r = omega arith in
@@ -123,9 +123,9 @@ module _ (cs us : List ℕ) (b : Bool) where
   digs-seen (suc j) r w k z h l =
       let e : suc j + r ≡ j + suc r = omega arith in
       let f : k + suc j ≡ k + j + 1 = omega arith in
-      let zd : Sized (dug cs us b w (k + j)) = rw (dug-put cs us b w (k + j)) (put-sized w (k + j) _ z) in
+      let zd : LevelsFit (dug cs us b w (k + j)) = rw (dug-put cs us b w (k + j)) (put-sized w (k + j) _ z) in
       rw (e, f) (digs-seen j (suc r) (dug cs us b w (k + j)) k zd (omega arith) (omega arith) ∙ ap (digging cs us b j) (dug-seen r w (k + j) l z (omega arith)))
 
-  pub begun-seen : (w : Levels) (k n : ℕ) → Sized w → k < places → stackIn 1 (pushed us b w k n) k ≡ begun us b n ∷ []
+  pub begun-seen : (w : Levels) (k n : ℕ) → LevelsFit w → k < places → stackIn 1 (pushed us b w k n) k ≡ begun us b n ∷ []
   unfolding stackIn
   begun-seen w k n z h = rw (pushed-put us b w k n) (put-seen 0 w k (begun us b n) z h)

@@ -9,7 +9,7 @@ use lib.ListN.{length, set, length-set}
 use lib.Seq.{getD-set-same, getD-set-other}
 use Rattle.meaning.specs.Limits.{walkCount, walkNumbers, allNumbers}
 use Rattle.meaning.specs.Lent.{VersionRecord}
-use Rattle.walk.specs.Walk.{numberAt, versionIn, stored}
+use Rattle.walk.specs.Walk.{numberAt, versionOfWalk, stored}
 
 module _ (ns : List ℕ) (n : ℕ) (v : VersionRecord) where
   abbrev after1 : List ℕ
@@ -54,8 +54,8 @@ module _ (ns : List ℕ) (n : ℕ) (v : VersionRecord) where
     unfolding stored
     past k l = other after5 5 k 0 (λ e. lt-irrefl zero (omega arith)) ∙ other after4 4 k 0 (λ e. lt-irrefl zero (omega arith))
 
-    pub stored-version : versionIn (stored ns n v) n ≡ v
-    unfolding versionIn
+    pub stored-version : versionOfWalk (stored ns n v) n ≡ v
+    unfolding versionOfWalk
     stored-version =
         rw (
           past 0 (omega arith) ∙ (other after3 3 0 _ (λ e. lt-irrefl zero (omega arith)) ∙ (other after2 2 0 _ (λ e. lt-irrefl zero (omega arith)) ∙ (other after1 1 0 _ (λ e. lt-irrefl zero (omega arith)) ∙ same ns 0 (v .live) long (omega arith)))),

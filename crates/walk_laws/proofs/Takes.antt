@@ -19,7 +19,7 @@ use Rattle.meaning.specs.Effects.{firstItem, lastItem, withoutFirst, withoutLas
 use Rattle.shape.proofs.Capacity.{height-levels}
 use Rattle.lookup.specs.declared.Got.the-variants.{Element, Nothing}
 use Rattle.lookup.proofs.Found.{element-in, contents-at, contents-length}
-use Rattle.walk.specs.Walk.{levelsOf, versionIn, Walkable, isEnded, Step, stepped, stackAt, takenOf, takenBy}
+use Rattle.walk.specs.Walk.{levelsOf, versionOfWalk, Walkable, isEnded, Step, stepped, stackAt, takenOf, takenBy}
 use Rattle.walk_laws.specs.Took.{SlicesFit, frontTaken, backTaken, Took}
 use Rattle.walk_laws.proofs.Ends.{stack-after, element-next}
 use Rattle.walk_laws.proofs.Left.{left-none, none-left, first-left, without-first, last-left, without-last}
@@ -46,14 +46,14 @@ module _ (s : Nodes) (ws : WalkSlices) (n : ℕ) (fits : SlicesFit ws) (in-range
   w = readRecord ws n
 
   abbrev v : VersionRecord
-  v = versionIn (ws .numbers) n
+  v = versionOfWalk (ws .numbers) n
 
   open-read : Open s (readRecord ws n)
   open-read = rw (record-read ws n) at o
 
   -- what the code asks for
   pub walkable : Walkable (ws .numbers) n
-  unfolding versionIn
+  unfolding versionOfWalk
   walkable =
       record {
         walk = in-range;
@@ -61,7 +61,7 @@ module _ (s : Nodes) (ws : WalkSlices) (n : ℕ) (fits : SlicesFit ws) (in-range
         taken = open-read .taken;
       }
 
-  low : heightOf (versionIn (ws .numbers) n) < walkLevels
+  low : heightOf (versionOfWalk (ws .numbers) n) < walkLevels
   low = height-levels (v .bits) (v .length) (record { bits = open-read .version .bits; length = open-read .version .length })
 
   module _ (left : List ℕ) (is : walkOf s (walkRecord ws n) ≡ taking left) where
@@ -75,11 +75,11 @@ module _ (s : Nodes) (ws : WalkSlices) (n : ℕ) (fits : SlicesFit ws) (in-range
     -- ---- an ended walk
 
     ended-is : left ≡ [] → isEnded (ws .numbers) n ≡ true
-    unfolding isEnded versionIn
+    unfolding isEnded versionOfWalk
     ended-is e = eq-eqb _ _ (none-left (w .front) (w .back) (v .length) (contents s v) (contents-length s v) (open-read .taken) (rest-is ∙ e))
 
     going-is : left ≢ [] → isEnded (ws .numbers) n ≡ false
-    unfolding isEnded versionIn
+    unfolding isEnded versionOfWalk
     going-is ne = ne-eqb (w .front + w .back) (v .length) (λ e. lt-irrefl zero (omega (arith, some-left ne)))
 
     pub ended-stays : (b : Bool) → left ≡ [] → takenBy (s .cells) (s .used) b ws n ≡ stepped ws Nothing

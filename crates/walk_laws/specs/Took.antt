@@ -17,13 +17,13 @@ use Rattle.walk.specs.Walk.{levelsOf, Step}
 
 -- ---- the lent lengths
 
-pub record Sized (w : Levels) : Type 0 where
+pub record LevelsFit (w : Levels) : Type 0 where
   pub nodes : length (w .nodes) ≡ places
   pub indices : length (w .indices) ≡ places
 
 pub record SlicesFit (ws : WalkSlices) : Type 0 where
   pub numbers : length (ws .numbers) ≡ allNumbers
-  pub levels : Sized (levelsOf ws)
+  pub levels : LevelsFit (levelsOf ws)
 
 -- ---- one element taken
 

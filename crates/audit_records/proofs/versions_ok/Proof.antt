@@ -8,7 +8,7 @@ use borrow.Author.Tests.{not-true, not-false}
 use borrow.Author.Needs.{needs}
 use Rattle.records.specs.Records.{recordsOf}
 use Rattle.audit_model.proofs.Steps.{through-start, through-next, through-fails, through-ends}
-use Rattle.audit_model.specs.Audit.{versionOf}
+use Rattle.audit_model.specs.Audit.{recordAt}
 use Rattle.audit_model.specs.Records.{versionStep}
 use Rattle.audit_model.specs.Descent.{answer, through}
 use Rattle.audit_model.specs.Made.{nodesOf}
@@ -17,7 +17,7 @@ use Rattle.audit_records.proofs.versions_ok.Statement.{statement}
 use Rattle.audit_records.proofs.versions_ok.Tie as tie
 
 abbrev Inv-loop : tie.InvT-loop
-Inv-loop kinds used cells codes₀ versions i₀ codes i = (length codes ≡ length codes₀) × (i ≤ 64) × (through i (λ (j : ℕ). versionStep (nodesOf kinds used cells) (versionOf (recordsOf versions) j)) codes₀ ≡ answer true codes)
+Inv-loop kinds used cells codes₀ versions i₀ codes i = (length codes ≡ length codes₀) × (i ≤ 64) × (through i (λ (j : ℕ). versionStep (nodesOf kinds used cells) (recordAt (recordsOf versions) j)) codes₀ ≡ answer true codes)
 
 abbrev μ-loop : tie.MeasureT-loop
 μ-loop kinds used cells codes₀ versions i₀ codes i = 64 - i

@@ -6,7 +6,7 @@ use borrow.Author.Tests.{not-true, not-false}
 use borrow.Author.Needs.{needs}
 use Rattle.records.specs.Records.{recordOf}
 use Rattle.audit_model.proofs.Sizes.{lengths-fit}
-use Rattle.form.specs.Forms.{lentOf}
+use Rattle.audit_reads.specs.Slices.{lentFrom}
 use Rattle.form.proofs.Forming.{refused-is, fresh-is, table-is}
 use Rattle.form.proofs.form.Statement.{statement}
 use Rattle.form.proofs.form.Tie as tie
@@ -17,12 +17,12 @@ lengths-ok-requires c κs = search needs
 returns : tie.Need-returns
 returns c =
     let a = c .before .before .before .before .before .before .before .before .before .args in
-    refused-is (lentOf (a .kinds .now) (a .used .now) (a .counts .now) (a .cells .now) (a .order .now) (a .versions) (a .walk-numbers .now) (a .walk-nodes .now) (a .walk-indices .now)) _ (c .before .lengths-ok .ensures) (not-true _ (c .if1 .taken))
+    refused-is (lentFrom (a .kinds .now) (a .used .now) (a .counts .now) (a .cells .now) (a .order .now) (a .versions) (a .walk-numbers .now) (a .walk-nodes .now) (a .walk-indices .now)) _ (c .before .lengths-ok .ensures) (not-true _ (c .if1 .taken))
 
 clear-nodes-requires : tie.Need-clear-nodes-requires
 clear-nodes-requires c κs =
     let a = c .before .before .before .before .before .before .before .before .before .before .before .before .before .args in
-    let s = lentOf (a .kinds .now) (a .used .now) (a .counts .now) (a .cells .now) (a .order .now) (a .versions) (a .walk-numbers .now) (a .walk-nodes .now) (a .walk-indices .now) in
+    let s = lentFrom (a .kinds .now) (a .used .now) (a .counts .now) (a .cells .now) (a .order .now) (a .versions) (a .walk-numbers .now) (a .walk-nodes .now) (a .walk-indices .now) in
     let fit = lengths-fit s _ (c .before .before .before .before .before .lengths-ok .ensures) (not-false _ (c .before .before .before .before .if1 .left)) (length-map (a .versions) recordOf ∙ c .before .before .before .before .before .before .before .before .before .before .before .before .before .good .1 .1 .1 .1 .1 .0 .1 .0 .1) in
     omega (arith, fit .order, fit .most)
 
@@ -56,7 +56,7 @@ same-length-7 c = search needs
 returns-2 : tie.Need-returns-2
 returns-2 c =
     let a = c .before .before .before .before .before .before .before .before .before .before .before .before .before .before .before .before .before .before .before .before .before .before .before .before .before .before .before .before .before .before .before .before .args in
-    let s = lentOf (a .kinds .now) (a .used .now) (a .counts .now) (a .cells .now) (a .order .now) (a .versions) (a .walk-numbers .now) (a .walk-nodes .now) (a .walk-indices .now) in
+    let s = lentFrom (a .kinds .now) (a .used .now) (a .counts .now) (a .cells .now) (a .order .now) (a .versions) (a .walk-numbers .now) (a .walk-nodes .now) (a .walk-indices .now) in
     let fit = lengths-fit s _ (c .before .before .before .before .before .before .before .before .before .before .before .before .before .before .before .before .before .before .before .before .before .before .before .before .lengths-ok .ensures) (not-false _ (c .before .before .before .before .before .before .before .before .before .before .before .before .before .before .before .before .before .before .before .before .before .before .before .if1 .left)) (length-map (a .versions) recordOf ∙ c .before .before .before .before .before .before .before .before .before .before .before .before .before .before .before .before .before .before .before .before .before .before .before .before .before .before .before .before .before .before .before .before .good .1 .1 .1 .1 .1 .0 .1 .0 .1) in
     fresh-is s _ _ _ _ _ _ _ _ fit (c .before .before .before .before .before .before .before .before .before .before .before .before .before .before .before .before .before .before .clear-nodes .ensures) (table-is 64 _ _ (c .empty .ensures)) (c .before .before .before .before .before .before .clear-walks .ensures)
 

@@ -58,7 +58,7 @@ use Rattle.host.specs.declared.Done.{Done}
 use Rattle.host.proofs.Report.Laws as Rep′
 use Rattle.host.proofs.Done.Laws as Don′
 use Rattle.host.proofs.Shapes.{RR, valR, makesR, typedR, DR, valD, tellsD, typedD, report-is, valV, table-is}
-use Rattle.form.specs.Forms.{lentOf}
+use Rattle.audit_reads.specs.Slices.{lentFrom}
 use Rattle.batch.specs.Batched.{Batches}
 use Rattle.host.specs.Reports.{BatchesOf}
 use Rattle.host.proofs.Batching.{batch-settled}
@@ -213,13 +213,13 @@ module _ {M : Type 1} (𝓤 : URA M) (H : Heap 𝓤) (A : Atoms 𝓤) (W : Given
 
   -- what `batch_table` says, at the table and the lists that it leaves, and what is to be said
   abbrev CoreSays : List Version → List ℕ → List ℕ → List ℕ → List ℕ → List ℕ → List ℕ → List ℕ → List ℤ → List ℕ → Done → Type 0
-  CoreSays table z₁ z₂ z₃ z₄ z₅ z₇ z₈ z₉ z₁₁ r = BatchesOf (length ys) (lentOf (x₁ .now) (x₂ .now) (x₃ .now) (x₄ .now) (x₅ .now) table (x₇ .now) (x₈ .now) (x₉ .now)) (lentOf z₁ z₂ z₃ z₄ z₅ (r .versions) z₇ z₈ z₉) (x₁₀ .now) (x₁₁ .now) z₁₁ r
+  CoreSays table z₁ z₂ z₃ z₄ z₅ z₇ z₈ z₉ z₁₁ r = BatchesOf (length ys) (lentFrom (x₁ .now) (x₂ .now) (x₃ .now) (x₄ .now) (x₅ .now) table (x₇ .now) (x₈ .now) (x₉ .now)) (lentFrom z₁ z₂ z₃ z₄ z₅ (r .versions) z₇ z₈ z₉) (x₁₀ .now) (x₁₁ .now) z₁₁ r
 
   abbrev Promised : List Version → List ℕ → List ℕ → List ℕ → List ℕ → List ℕ → List ℕ → List ℕ → List ℤ → List ℕ → Report → Type 0
-  Promised us z₁ z₂ z₃ z₄ z₅ z₇ z₈ z₉ z₁₁ r = Batches (lentOf (x₁ .now) (x₂ .now) (x₃ .now) (x₄ .now) (x₅ .now) ys (x₇ .now) (x₈ .now) (x₉ .now)) (lentOf z₁ z₂ z₃ z₄ z₅ us z₇ z₈ z₉) (x₁₀ .now) (x₁₁ .now) z₁₁ (r .number) (r .frames)
+  Promised us z₁ z₂ z₃ z₄ z₅ z₇ z₈ z₉ z₁₁ r = Batches (lentFrom (x₁ .now) (x₂ .now) (x₃ .now) (x₄ .now) (x₅ .now) ys (x₇ .now) (x₈ .now) (x₉ .now)) (lentFrom z₁ z₂ z₃ z₄ z₅ us z₇ z₈ z₉) (x₁₀ .now) (x₁₁ .now) z₁₁ (r .number) (r .frames)
 
   promised : (us table : List Version) (z₁ : List ℕ) (z₂ : List ℕ) (z₃ : List ℕ) (z₄ : List ℕ) (z₅ : List ℕ) (z₇ : List ℕ) (z₈ : List ℕ) (z₉ : List ℤ) (z₁₁ : List ℕ) (r : Done) → table ≡ tableOf ys → CoreSays table z₁ z₂ z₃ z₄ z₅ z₇ z₈ z₉ z₁₁ r → us ≡ stored (r .stores) (r .versions) ys → Promised us z₁ z₂ z₃ z₄ z₅ z₇ z₈ z₉ z₁₁ (r .report)
-  promised us table z₁ z₂ z₃ z₄ z₅ z₇ z₈ z₉ z₁₁ r e₁ e₂ e₃ = batch-settled ys table us (lentOf (x₁ .now) (x₂ .now) (x₃ .now) (x₄ .now) (x₅ .now) table (x₇ .now) (x₈ .now) (x₉ .now)) (lentOf z₁ z₂ z₃ z₄ z₅ (r .versions) z₇ z₈ z₉) (x₁₀ .now) (x₁₁ .now) z₁₁ r e₁ refl refl e₂ e₃
+  promised us table z₁ z₂ z₃ z₄ z₅ z₇ z₈ z₉ z₁₁ r e₁ e₂ e₃ = batch-settled ys table us (lentFrom (x₁ .now) (x₂ .now) (x₃ .now) (x₄ .now) (x₅ .now) table (x₇ .now) (x₈ .now) (x₉ .now)) (lentFrom z₁ z₂ z₃ z₄ z₅ (r .versions) z₇ z₈ z₉) (x₁₀ .now) (x₁₁ .now) z₁₁ r e₁ refl refl e₂ e₃
 
   exits : (r : Report) (us : List Version) (z₁ : List ℕ) (z₂ : List ℕ) (z₃ : List ℕ) (z₄ : List ℕ) (z₅ : List ℕ) (z₇ : List ℕ) (z₈ : List ℕ) (z₉ : List ℤ) (z₁₁ : List ℕ) → Is RR r (valR r ∷ []) → length us ≡ length ys → length z₁ ≡ length (x₁ .now) → length z₂ ≡ length (x₂ .now) → length z₃ ≡ length (x₃ .now) → length z₄ ≡ length (x₄ .now) → length z₅ ≡ length (x₅ .now) → length z₇ ≡ length (x₇ .now) → length z₈ ≡ length (x₈ .now) → length z₉ ≡ length (x₉ .now) → length z₁₁ ≡ length (x₁₁ .now) → Promised us z₁ z₂ z₃ z₄ z₅ z₇ z₈ z₉ z₁₁ r
       → ent 𝓤 (⋆ 𝓤 H A ((‵ (flft κ₆ q₆) ⊛ ‵ ftrue) ∷ Toks ∷ ‵ (finally u8 (x₁ .name) z₁) ∷ ‵ (finally u8 (x₂ .name) z₂) ∷ ‵ (finally u32 (x₃ .name) z₃) ∷ ‵ (finally u32 (x₄ .name) z₄) ∷ ‵ (finally u32 (x₅ .name) z₅) ∷ ‵ (finally R γ us) ∷ ‵ (finally u32 (x₇ .name) z₇) ∷ ‵ (finally u32 (x₈ .name) z₈) ∷ ‵ (finally i32 (x₉ .name) z₉) ∷ ‵ O₁₀ ∷ ‵ (finally u8 (x₁₁ .name) z₁₁) ∷ [])) (Post (valR r))

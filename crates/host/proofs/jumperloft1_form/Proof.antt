@@ -58,7 +58,8 @@ use Rattle.host.specs.declared.Done.{Done}
 use Rattle.host.proofs.Report.Laws as Rep′
 use Rattle.host.proofs.Done.Laws as Don′
 use Rattle.host.proofs.Shapes.{RR, valR, makesR, typedR, DR, valD, tellsD, typedD, report-is, valV, table-is}
-use Rattle.form.specs.Forms.{lentOf, Forms}
+use Rattle.audit_reads.specs.Slices.{lentFrom}
+use Rattle.form.specs.Forms.{Forms}
 use Rattle.host.specs.Reports.{FormsOf}
 use Rattle.host.proofs.Forming.{form-settled}
 use Rattle.host.proofs.Shapes.{told}
@@ -200,13 +201,13 @@ module _ {M : Type 1} (𝓤 : URA M) (H : Heap 𝓤) (A : Atoms 𝓤) (W : Given
 
   -- what `form_table` says, at the table and the lists that it leaves, and what is to be said
   abbrev CoreSays : List Version → List ℕ → List ℕ → List ℕ → List ℕ → List ℕ → List ℕ → List ℤ → Done → Type 0
-  CoreSays table z₁ z₂ z₃ z₅ z₇ z₈ z₉ r = FormsOf (length ys) (lentOf (x₁ .now) (x₂ .now) (x₃ .now) (x₄ .now) (x₅ .now) table (x₇ .now) (x₈ .now) (x₉ .now)) (lentOf z₁ z₂ z₃ (x₄ .now) z₅ (r .versions) z₇ z₈ z₉) r
+  CoreSays table z₁ z₂ z₃ z₅ z₇ z₈ z₉ r = FormsOf (length ys) (lentFrom (x₁ .now) (x₂ .now) (x₃ .now) (x₄ .now) (x₅ .now) table (x₇ .now) (x₈ .now) (x₉ .now)) (lentFrom z₁ z₂ z₃ (x₄ .now) z₅ (r .versions) z₇ z₈ z₉) r
 
   abbrev Promised : List Version → List ℕ → List ℕ → List ℕ → List ℕ → List ℕ → List ℕ → List ℤ → Report → Type 0
-  Promised us z₁ z₂ z₃ z₅ z₇ z₈ z₉ r = Forms (lentOf (x₁ .now) (x₂ .now) (x₃ .now) (x₄ .now) (x₅ .now) ys (x₇ .now) (x₈ .now) (x₉ .now)) (lentOf z₁ z₂ z₃ (x₄ .now) z₅ us z₇ z₈ z₉) (r .number) × (r .frames ≡ 0)
+  Promised us z₁ z₂ z₃ z₅ z₇ z₈ z₉ r = Forms (lentFrom (x₁ .now) (x₂ .now) (x₃ .now) (x₄ .now) (x₅ .now) ys (x₇ .now) (x₈ .now) (x₉ .now)) (lentFrom z₁ z₂ z₃ (x₄ .now) z₅ us z₇ z₈ z₉) (r .number) × (r .frames ≡ 0)
 
   promised : (us table : List Version) (z₁ : List ℕ) (z₂ : List ℕ) (z₃ : List ℕ) (z₅ : List ℕ) (z₇ : List ℕ) (z₈ : List ℕ) (z₉ : List ℤ) (r : Done) → table ≡ tableOf ys → CoreSays table z₁ z₂ z₃ z₅ z₇ z₈ z₉ r → us ≡ stored (r .stores) (r .versions) ys → Promised us z₁ z₂ z₃ z₅ z₇ z₈ z₉ (r .report)
-  promised us table z₁ z₂ z₃ z₅ z₇ z₈ z₉ r e₁ e₂ e₃ = form-settled ys table us (lentOf (x₁ .now) (x₂ .now) (x₃ .now) (x₄ .now) (x₅ .now) table (x₇ .now) (x₈ .now) (x₉ .now)) (lentOf z₁ z₂ z₃ (x₄ .now) z₅ (r .versions) z₇ z₈ z₉) r e₁ refl refl e₂ e₃
+  promised us table z₁ z₂ z₃ z₅ z₇ z₈ z₉ r e₁ e₂ e₃ = form-settled ys table us (lentFrom (x₁ .now) (x₂ .now) (x₃ .now) (x₄ .now) (x₅ .now) table (x₇ .now) (x₈ .now) (x₉ .now)) (lentFrom z₁ z₂ z₃ (x₄ .now) z₅ (r .versions) z₇ z₈ z₉) r e₁ refl refl e₂ e₃
 
   exits : (r : Report) (us : List Version) (z₁ : List ℕ) (z₂ : List ℕ) (z₃ : List ℕ) (z₅ : List ℕ) (z₇ : List ℕ) (z₈ : List ℕ) (z₉ : List ℤ) → Is RR r (valR r ∷ []) → length us ≡ length ys → length z₁ ≡ length (x₁ .now) → length z₂ ≡ length (x₂ .now) → length z₃ ≡ length (x₃ .now) → length z₅ ≡ length (x₅ .now) → length z₇ ≡ length (x₇ .now) → length z₈ ≡ length (x₈ .now) → length z₉ ≡ length (x₉ .now) → Promised us z₁ z₂ z₃ z₅ z₇ z₈ z₉ r
       → ent 𝓤 (⋆ 𝓤 H A ((‵ (flft κ₆ q₆) ⊛ ‵ ftrue) ∷ Toks ∷ ‵ (finally u8 (x₁ .name) z₁) ∷ ‵ (finally u8 (x₂ .name) z₂) ∷ ‵ (finally u32 (x₃ .name) z₃) ∷ ‵ O₄ ∷ ‵ (finally u32 (x₅ .name) z₅) ∷ ‵ (finally R γ us) ∷ ‵ (finally u32 (x₇ .name) z₇) ∷ ‵ (finally u32 (x₈ .name) z₈) ∷ ‵ (finally i32 (x₉ .name) z₉) ∷ [])) (Post (valR r))

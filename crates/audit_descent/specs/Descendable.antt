@@ -3,7 +3,7 @@ use Prim.Native.Nat.{ℕ, _*_, _≤_, _<_}
 use Rattle.meaning.specs.Limits.{maxLength, lengthBits}
 use Rattle.meaning.specs.WellFormed.{LegalBits}
 
-pub record Ready (b h m : ℕ) : Type 0 where
+pub record Descendable (b h m : ℕ) : Type 0 where
   pub bits : LegalBits b
   pub shift : h * b < lengthBits
   pub size : m ≤ maxLength
