@@ -6,7 +6,6 @@ use limits::WALK_NUMBERS;
 use lookup::Got;
 use records::Version;
 ghost use mathlib.Core.Path.{_≡_};
-ghost use mathlib.Core.Bool.{Bool, true, false};
 ghost use Prim.Native.Nat.{ℕ, _+_, _*_, _<_, _≤_};
 ghost use Rattle.meaning.specs.Counting.{bit};
 ghost use Rattle.meaning.specs.Limits.{walkCount, walkLevels, places};
@@ -138,36 +137,6 @@ pub fn take(
     );
     numbers[at] = taken + 1;
     Got::Element(x)
-}
-
-pub fn next(
-    cells: &[u32],
-    used: &[u8],
-    numbers: &mut [u32; ALL_NUMBERS],
-    nodes: &mut [u32; PLACES],
-    indices: &mut [i32; PLACES],
-    n: u32,
-) -> Got
-    requires { ⌜ Walkable (now numbers) n ⌝ }
-    ensures { λ r. ⌜ stepped (slices (now (numbers .exit)) (now (nodes .exit)) (now (indices .exit))) r
-        ≡ takenBy (now (cells .entry)) (now (used .entry)) false (slices (now (numbers .entry)) (now (nodes .entry)) (now (indices .entry))) n ⌝ }
-{
-    take(cells, used, numbers, nodes, indices, n, false)
-}
-
-pub fn next_back(
-    cells: &[u32],
-    used: &[u8],
-    numbers: &mut [u32; ALL_NUMBERS],
-    nodes: &mut [u32; PLACES],
-    indices: &mut [i32; PLACES],
-    n: u32,
-) -> Got
-    requires { ⌜ Walkable (now numbers) n ⌝ }
-    ensures { λ r. ⌜ stepped (slices (now (numbers .exit)) (now (nodes .exit)) (now (indices .exit))) r
-        ≡ takenBy (now (cells .entry)) (now (used .entry)) true (slices (now (numbers .entry)) (now (nodes .entry)) (now (indices .entry))) n ⌝ }
-{
-    take(cells, used, numbers, nodes, indices, n, true)
 }
 
 // ---- so many at once
