@@ -41,20 +41,19 @@ pub fn call(lent: &mut Lent, rng: &mut Rng) {
 }
 
 /// Several pushes, from slot to slot, so that lists grow; each source but the last is released.
-fn pushes(lent: &mut Lent, rng: &mut Rng, first: Frame) {
+fn pushes(lent: &mut Lent, rng: &mut Rng, mut push: Frame) {
     let most = [2, 12, 60, 300][rng.below(4)];
-    let mut frames = vec![first];
+    let mut frames = vec![push];
     for _ in 0..=rng.below(most) {
         if !is_last_done(lent, &frames) {
             return;
         }
-        let [.., last] = frames[..] else { return };
-        let release = Frame::of(last.party, RELEASE, last.slot, 0);
-        let push = Frame {
-            slot: last.destination,
-            destination: last.slot,
+        let release = Frame::of(push.party, RELEASE, push.slot, 0);
+        push = Frame {
+            slot: push.destination,
+            destination: push.slot,
             value: rng.word(),
-            ..last
+            ..push
         };
         frames = vec![release, push];
     }

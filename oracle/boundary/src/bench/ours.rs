@@ -3,10 +3,8 @@
 use super::instructions::jumperloft_counted;
 use super::row::{Row, Work};
 use super::runner::{sum_in_order, Runner};
-use frames::Frame;
+use frames::{Frame, ANSWER_SIZE};
 use lent::{ffi, Lent, SLOTS};
-
-const ANSWER: usize = 6;
 
 pub struct Ours {
     row: Row,
@@ -78,7 +76,7 @@ fn send(lent: &mut Lent, batch: &[u8], room: &mut Vec<u8>) -> u64 {
     room.resize(batch.len() / 2, 0);
     assert_eq!(ffi::batch(lent, batch, room).number, 0);
     let (mut refused, mut sum) = (0, 0);
-    for answer in room.chunks_exact(ANSWER) {
+    for answer in room.chunks_exact(ANSWER_SIZE) {
         refused |= answer[0];
         sum += u64::from(u32::from_be_bytes([
             answer[2], answer[3], answer[4], answer[5],
