@@ -92,4 +92,5 @@ boundary-mutants: header-mutants
 
 # MUTANTS, a regular expression, chooses some
 header-mutants: host-library
-	@python3 -B tests/mutants/header.py '$(MAKE)' '$(BUILT_LIBRARY)' target/mutants $(MUTANT_JOBS) $(if $(MUTANTS),'$(MUTANTS)')
+	@if ! command -v python3 >/dev/null 2>&1; then echo 'header-mutants: SKIPPED, there is no python3 on this machine'; \
+	else python3 -B tests/mutants/header.py '$(MAKE)' '$(BUILT_LIBRARY)' target/mutants $(MUTANT_JOBS) $(if $(MUTANTS),'$(MUTANTS)'); fi

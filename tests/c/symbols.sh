@@ -1,6 +1,6 @@
 #!/bin/sh
 # The archive exports three calls, wants two functions of C, and has no global that can be written to; a shared object that
-# makes the calls exports none of them unless it wants to: symbols.sh ARCHIVE FOLDER COMPILER WORDS..
+# makes the calls exports none of them unless it wants to, and needs the archive: symbols.sh ARCHIVE FOLDER COMPILER WORDS..
 cd "$(dirname "$0")/../.." || exit 1
 archive=$1
 folder=$2
@@ -22,4 +22,6 @@ exported=$(shared "$@" tests/c/header.c "$archive")
 if [ -n "$exported" ]; then echo "symbols: FAILED, a shared object exports $exported"; exit 1; fi
 exported=$(shared "$@" -DJUMPERLOFT1_CALL= tests/c/header.c "$archive")
 if [ "$exported" != "$wanted" ]; then echo "symbols: FAILED, a shared object that wants to export the calls exports $exported"; exit 1; fi
-echo 'symbols: three calls exported, memcpy and memset wanted, no global; a shared object hides the calls unless it wants to export them'
+# left out, the archive is missed by the linker, and not made up for by what a process happens to have
+if "$@" tests/c/header.c -shared -fPIC -o "$folder/shared.so" 2>/dev/null; then echo 'symbols: FAILED, a shared object links without the archive'; exit 1; fi
+echo 'symbols: three calls exported, memcpy and memset wanted, no global; a shared object links its own calls and hides them unless it wants to export them'

@@ -15,7 +15,7 @@ from queue import Queue
 from header_rules import mutants
 
 HEADER = Path("include/jumperloft.h")
-SECONDS = 40
+SECONDS = 120
 
 FITS = "a byte shifted by 16 or less fits an int"
 # what can't be noticed, by the changed lines as they then read, and why
@@ -80,8 +80,9 @@ def main(make, library, folder, jobs="1", words=""):
         finally:
             benches.put(bench)
 
-    if judge(("", 0, "", text))[1] is not None:
-        sys.exit("header-mutants: FAILED, the header itself does not pass")
+    noticed = judge(("", 0, "", text))[1]
+    if noticed is not None:
+        sys.exit(f"header-mutants: FAILED, the header itself is noticed by the {noticed}")
     chosen = [m for m in mutants(text) if re.search(words, m[0] + " " + changed_lines(text, m[3]))]
     by, passed, named = Counter(), [], Counter()
     with ThreadPoolExecutor(int(jobs)) as pool:
