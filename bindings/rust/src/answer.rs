@@ -54,6 +54,26 @@ impl Answer {
         (served == Served::default()).then_some(Answer(Err(refusal)))
     }
 
+    /// The answers in a room that [`StateRef::run_into`](crate::StateRef::run_into) wrote, in order; bytes beyond the last whole one
+    /// are left out.
+    ///
+    /// ```
+    /// use jumperloft::{Answer, Batch, Frame, Refusal, State};
+    ///
+    /// let mut state = State::new(64)?;
+    /// let batch: Batch = [Frame::free_nodes(); 3].into_iter().collect();
+    /// let mut room = [0; 100];
+    /// let ran = state.run_into(batch.as_bytes(), &mut room)?;
+    /// for answer in Answer::each_in(&room).take(ran).flatten() {
+    ///     assert_eq!(answer.result()?.value, 64);
+    /// }
+    /// # Ok::<(), Refusal>(())
+    /// ```
+    pub fn each_in(room: &[u8]) -> impl ExactSizeIterator<Item = Option<Answer>> + '_ {
+        let (answers, _) = room.as_chunks();
+        answers.iter().map(|bytes| Answer::from_bytes(*bytes))
+    }
+
     /// The answer as it is sent.
     pub fn to_bytes(self) -> [u8; Answer::SIZE] {
         let number = self.0.map_or_else(Refusal::number, |_| 0);

@@ -1,8 +1,14 @@
 //! Many requests in one call.
 
-use crate::Frame;
+use std::fmt;
+use std::iter::Map;
+use std::slice::Iter;
+
+use crate::{Frame, Refusal};
 
 /// Frames to be run in order by one call, with one audit for all of them.
+///
+/// A refused frame doesn't stop those after it. For frames of one party, see [`PartyHandle::batch`](crate::PartyHandle::batch).
 ///
 /// ```
 /// use jumperloft::{Batch, Frame, Party, Refusal, Slot, State};
@@ -17,59 +23,79 @@ use crate::Frame;
 ///
 /// let answers = State::new(256)?.run(&batch)?;
 /// assert_eq!(answers[2].result()?.value, 7);
-/// assert_eq!(answers[3].result(), Err(Refusal::NothingThere));
+/// for (frame, answer) in batch.iter().zip(answers) {
+///     assert!(answer.result().is_ok() || frame == Frame::get(party, one, 1));
+/// }
 /// # Ok::<(), Refusal>(())
 /// ```
-#[derive(Clone, Debug, Default, PartialEq, Eq, Hash)]
+#[derive(Clone, Default, PartialEq, Eq, Hash)]
 pub struct Batch {
-    bytes: Vec<u8>,
+    requests: Vec<[u8; Frame::SIZE]>,
 }
+
+/// The frames of a [`Batch`] in order.
+pub type Frames<'a> = Map<Iter<'a, [u8; Frame::SIZE]>, fn(&[u8; Frame::SIZE]) -> Frame>;
 
 impl Batch {
     /// A batch of no frames.
     pub const fn new() -> Batch {
-        Batch { bytes: Vec::new() }
+        Batch {
+            requests: Vec::new(),
+        }
     }
 
     /// A batch of no frames, with room for so many.
     pub fn with_capacity(frames: usize) -> Batch {
         Batch {
-            bytes: Vec::with_capacity(Frame::SIZE * frames),
+            requests: Vec::with_capacity(frames),
         }
     }
 
     /// Puts a frame at the end.
     pub fn push(&mut self, frame: Frame) -> &mut Batch {
-        self.bytes.extend_from_slice(&frame.to_bytes());
+        self.requests.push(frame.to_bytes());
         self
     }
 
     /// How many frames there are.
     pub fn len(&self) -> usize {
-        self.bytes.len() / Frame::SIZE
+        self.requests.len()
     }
 
     /// Whether there is none.
     pub fn is_empty(&self) -> bool {
-        self.bytes.is_empty()
+        self.requests.is_empty()
     }
 
     /// Takes all frames out and keeps their room.
     pub fn clear(&mut self) {
-        self.bytes.clear();
+        self.requests.clear();
+    }
+
+    /// The frames in order.
+    pub fn iter(&self) -> Frames<'_> {
+        self.requests.iter().map(|bytes| Frame::from_bytes(*bytes))
     }
 
     /// The requests as they are sent.
     pub fn as_bytes(&self) -> &[u8] {
-        &self.bytes
+        self.requests.as_flattened()
+    }
+}
+
+impl<'a> IntoIterator for &'a Batch {
+    type Item = Frame;
+    type IntoIter = Frames<'a>;
+
+    fn into_iter(self) -> Frames<'a> {
+        self.iter()
     }
 }
 
 impl Extend<Frame> for Batch {
     fn extend<Frames: IntoIterator<Item = Frame>>(&mut self, frames: Frames) {
-        for frame in frames {
-            self.push(frame);
-        }
+        self.requests
+            .extend(frames.into_iter().map(Frame::to_bytes));
     }
 }
 
@@ -78,5 +104,35 @@ impl FromIterator<Frame> for Batch {
         let mut batch = Batch::new();
         batch.extend(frames);
         batch
+    }
+}
+
+/// Requests that someone else wrote; refused with [`Refusal::Ragged`] where they are not whole frames.
+///
+/// ```
+/// use jumperloft::{Batch, Frame, Refusal};
+///
+/// let batch = Batch::try_from([0, 13, 0, 0, 0, 0, 0, 0, 0, 0, 0, 0].as_slice())?;
+/// assert_eq!(batch.iter().collect::<Vec<_>>(), [Frame::free_nodes()]);
+/// assert_eq!(Batch::try_from([0; 11].as_slice()), Err(Refusal::Ragged));
+/// # Ok::<(), Refusal>(())
+/// ```
+impl TryFrom<&[u8]> for Batch {
+    type Error = Refusal;
+
+    fn try_from(bytes: &[u8]) -> Result<Batch, Refusal> {
+        let (requests, rest) = bytes.as_chunks();
+        if !rest.is_empty() {
+            return Err(Refusal::Ragged);
+        }
+        Ok(Batch {
+            requests: requests.to_vec(),
+        })
+    }
+}
+
+impl fmt::Debug for Batch {
+    fn fmt(&self, f: &mut fmt::Formatter<'_>) -> fmt::Result {
+        f.debug_list().entries(self).finish()
     }
 }

@@ -1,8 +1,10 @@
-//! The exported calls of the library. Everything unsafe of this crate stands here.
+//! The exported calls of the library.
 //!
-//! Both calls are proved for all slices: they require nothing of lengths or contents, stay within the slices, end, and keep no address.
+//! All are proved for all slices: they require nothing of lengths or contents, stay within the slices, end, and keep no address.
 
-use crate::memory::{Memory, Version};
+use std::arch::asm;
+
+use crate::memory::{Memory, Sizes, Version};
 
 /// What a call reports.
 #[repr(C)]
@@ -16,6 +18,7 @@ pub(crate) struct Report {
 // A slice is passed as its first element's address and its length.
 #[rustfmt::skip]
 extern "C" {
+    fn jumperloft1_sizes(nodes: usize) -> Sizes;
     fn jumperloft1_form(
         kinds: *mut u8, kinds_len: usize, used: *mut u8, used_len: usize, counts: *mut u32, counts_len: usize,
         cells: *const u32, cells_len: usize, order: *mut u32, order_len: usize,
@@ -31,33 +34,63 @@ extern "C" {
     ) -> Report;
 }
 
-/// Makes a fresh state, or refuses and writes nothing.
-#[rustfmt::skip]
-pub(crate) fn form(memory: &mut Memory<'_>) -> Report {
-    let m = memory;
-    // SAFETY: each address and length is of one slice, borrowed for this call, and those to be written are borrowed alone.
+/// Keeps the library's names out of what the caller is linked into, so that no other code can be taken for them.
+#[inline(always)]
+fn hide_names() {
+    // SAFETY: directives to the assembler, and no instruction.
     unsafe {
-        jumperloft1_form(
-            m.kinds.as_mut_ptr(), m.kinds.len(), m.used.as_mut_ptr(), m.used.len(), m.counts.as_mut_ptr(), m.counts.len(),
-            m.cells.as_ptr(), m.cells.len(), m.order.as_mut_ptr(), m.order.len(),
-            m.versions.as_mut_ptr(), m.versions.len(), m.walk_numbers.as_mut_ptr(), m.walk_numbers.len(),
-            m.walk_nodes.as_mut_ptr(), m.walk_nodes.len(), m.walk_indices.as_mut_ptr(), m.walk_indices.len(),
+        asm!(
+            ".hidden jumperloft1_sizes",
+            ".hidden jumperloft1_form",
+            ".hidden jumperloft1_batch",
+            options(nomem, nostack, preserves_flags)
         )
     }
 }
 
-/// Runs the frames and writes their answers, or refuses and writes nothing.
+/// A call with the nine slices first, in the order of the declarations above.
 #[rustfmt::skip]
+macro_rules! call_on {
+    ($memory:ident, $call:ident $(, $more:expr)*) => {
+        $call(
+            $memory.kinds.as_mut_ptr(), $memory.kinds.len(), $memory.used.as_mut_ptr(), $memory.used.len(),
+            $memory.counts.as_mut_ptr(), $memory.counts.len(), $memory.cells.as_mut_ptr(), $memory.cells.len(),
+            $memory.order.as_mut_ptr(), $memory.order.len(), $memory.versions.as_mut_ptr(), $memory.versions.len(),
+            $memory.walk_numbers.as_mut_ptr(), $memory.walk_numbers.len(),
+            $memory.walk_nodes.as_mut_ptr(), $memory.walk_nodes.len(),
+            $memory.walk_indices.as_mut_ptr(), $memory.walk_indices.len()
+            $(, $more)*
+        )
+    };
+}
+
+/// The sizes of a state of so many nodes, all 0 where there is no such state.
+pub(crate) fn sizes(nodes: usize) -> Sizes {
+    hide_names();
+    // SAFETY: it takes a number, and any will do.
+    unsafe { jumperloft1_sizes(nodes) }
+}
+
+/// Makes a fresh state, or refuses and writes nothing.
+pub(crate) fn form(memory: &mut Memory<'_>) -> Report {
+    hide_names();
+    // SAFETY: each address and length is of one slice, which is borrowed alone for this call.
+    unsafe { call_on!(memory, jumperloft1_form) }
+}
+
+/// Runs the frames and writes their answers, or refuses and writes nothing.
 pub(crate) fn batch(memory: &mut Memory<'_>, requests: &[u8], room: &mut [u8]) -> Report {
-    let m = memory;
+    hide_names();
+    let (asked, answered) = (requests.as_ptr(), room.as_mut_ptr());
     // SAFETY: each address and length is of one slice, borrowed for this call, and those to be written are borrowed alone.
     unsafe {
-        jumperloft1_batch(
-            m.kinds.as_mut_ptr(), m.kinds.len(), m.used.as_mut_ptr(), m.used.len(), m.counts.as_mut_ptr(), m.counts.len(),
-            m.cells.as_mut_ptr(), m.cells.len(), m.order.as_mut_ptr(), m.order.len(),
-            m.versions.as_mut_ptr(), m.versions.len(), m.walk_numbers.as_mut_ptr(), m.walk_numbers.len(),
-            m.walk_nodes.as_mut_ptr(), m.walk_nodes.len(), m.walk_indices.as_mut_ptr(), m.walk_indices.len(),
-            requests.as_ptr(), requests.len(), room.as_mut_ptr(), room.len(),
+        call_on!(
+            memory,
+            jumperloft1_batch,
+            asked,
+            requests.len(),
+            answered,
+            room.len()
         )
     }
 }

@@ -1,6 +1,6 @@
 //! Requests as frames of 12 bytes.
 
-use crate::{Party, Slot, Walk};
+use crate::{Party, Refusal, Slot, Walk};
 
 /// What a frame asks for; the numbers are document 01's.
 #[derive(Clone, Copy, Debug, PartialEq, Eq, Hash)]
@@ -24,6 +24,45 @@ pub enum Operation {
     First = 0x0E,
     Last = 0x0F,
     Compare = 0x10,
+}
+
+impl Operation {
+    /// All of them, by number.
+    pub const ALL: [Operation; 17] = [
+        Operation::NewVector,
+        Operation::CloneSlot,
+        Operation::Release,
+        Operation::Len,
+        Operation::Get,
+        Operation::Set,
+        Operation::PushBack,
+        Operation::DropLast,
+        Operation::OpenWalk,
+        Operation::Next,
+        Operation::NextBack,
+        Operation::CloseWalk,
+        Operation::HandOver,
+        Operation::FreeNodes,
+        Operation::First,
+        Operation::Last,
+        Operation::Compare,
+    ];
+
+    /// Document 01's number.
+    pub const fn number(self) -> u8 {
+        self as u8
+    }
+}
+
+impl TryFrom<u8> for Operation {
+    type Error = Refusal;
+
+    /// The operation of a number; else the refusal that a frame with it would get.
+    fn try_from(number: u8) -> Result<Operation, Refusal> {
+        let mut all = Operation::ALL.into_iter();
+        all.find(|operation| operation.number() == number)
+            .ok_or(Refusal::NoOperation)
+    }
 }
 
 /// One request. The constructors make those that no range check refuses; the fields may hold anything at all.
@@ -92,7 +131,7 @@ impl Frame {
     const fn asks(party: Party, operation: Operation) -> Frame {
         Frame {
             party: party.number(),
-            operation: operation as u8,
+            operation: operation.number(),
             slot: 0,
             destination: 0,
             index: 0,

@@ -10,11 +10,14 @@
 //! let mut plug_in = state.party(Party::new(1)?);
 //! let ([empty, one, two, ..], [walk, _]) = (Slot::ALL, Walk::ALL);
 //!
-//! plug_in.new_vector(empty, DEFAULT_BITS)?;
-//! plug_in.push_back(empty, one, 7)?;
-//! let edited = plug_in.push_back(one, two, 9)?;
+//! let answers = plug_in
+//!     .batch()
+//!     .new_vector(empty, DEFAULT_BITS)
+//!     .push_back(empty, one, 7)
+//!     .push_back(one, two, 9)
+//!     .run()?;
 //!
-//! assert_eq!(edited.fresh, 1);
+//! assert_eq!(answers[2].result()?.fresh, 1);
 //! assert_eq!(plug_in.len(one)?, 1);
 //! assert_eq!(plug_in.values(two, walk)?.rev().collect::<Vec<u32>>(), [9, 7]);
 //! assert_eq!(plug_in.get(two, 2), Err(Refusal::NothingThere));
@@ -23,13 +26,15 @@
 //!
 //! # Who holds what
 //!
-//! [`State`] owns its memory. [`StateRef`] is a state in [`Memory`] that someone else lends. Both give a [`PartyHandle`], which can
-//! speak for one party alone and so may be lent to a plug-in, and a [`Host`], which may also hand versions over and count free nodes.
+//! [`State`] owns its memory. [`StateRef`] is a state in [`Memory`] that someone else lends, maybe by a pointer from C
+//! ([`LentState`]). Both give a [`PartyHandle`], which can speak for one party alone and so may be lent to a plug-in, and a
+//! [`Host`], which may also hand versions over and count free nodes.
 //!
 //! # What a call costs
 //!
-//! Each call audits the whole state first, so it takes time by the number of nodes; a [`Batch`] audits once for all of its frames,
-//! and [`Values`] takes elements many at a time. The audit needs 523 KiB of stack. A refused call has changed nothing.
+//! Each call audits the whole state first, so it takes time by the number of nodes: put many frames in one. A [`Batch`] and a
+//! [`PartyBatch`] audit once for all of their frames, and [`Values`] takes elements many at a time. A call needs [`STACK_SIZE`]
+//! bytes of stack. A refused call has changed nothing.
 
 #![deny(unsafe_op_in_unsafe_fn, missing_docs, unsafe_code)]
 
@@ -39,27 +44,38 @@ mod batch;
 mod ffi;
 mod frame;
 mod host;
+#[allow(unsafe_code)]
+mod lent;
 mod memory;
 mod numbers;
 mod party;
+mod party_batch;
 mod refusal;
 mod state;
 mod values;
 mod walks;
 
 pub use answer::{Answer, Edited, Served};
-pub use batch::Batch;
+pub use batch::{Batch, Frames};
 pub use frame::{Frame, Operation};
 pub use host::Host;
-pub use memory::{Memory, Version};
+pub use lent::LentState;
+pub use memory::{Memory, Sizes, Version};
 pub use numbers::{Party, Slot, Walk};
 pub use party::PartyHandle;
-pub use refusal::Refusal;
+pub use party_batch::PartyBatch;
+pub use refusal::{NoRefusal, Refusal};
 pub use state::{State, StateRef};
 pub use values::Values;
 
 /// The bits of a vector whose maker doesn't care: nodes of 32 cells.
 pub const DEFAULT_BITS: u32 = 5;
 
+/// The greatest bits of a vector; the least are 1.
+pub const MOST_BITS: u32 = 5;
+
 /// The greatest length of a vector.
 pub const MOST_ELEMENTS: usize = 32_768;
+
+/// The bytes of stack to be left for a call, at any number of nodes.
+pub const STACK_SIZE: usize = 1_048_576;

@@ -1,5 +1,9 @@
 //! What a host lends.
 
+use std::fmt;
+
+use crate::ffi;
+
 /// The record of a version slot.
 #[repr(C)]
 #[derive(Clone, Copy, Debug, Default, PartialEq, Eq, Hash)]
@@ -14,10 +18,50 @@ pub struct Version {
     pub length: u32,
 }
 
+/// How many elements each slice of a state has.
+///
+/// ```
+/// use jumperloft::{Memory, Sizes};
+///
+/// let sizes = Sizes::of(256).unwrap();
+/// assert_eq!((sizes.nodes, sizes.cells), (256, 256 * Memory::NODE_CELLS));
+/// assert_eq!(Sizes::of(Memory::MOST_NODES + 1), None);
+/// ```
+#[repr(C)]
+#[derive(Clone, Copy, Debug, PartialEq, Eq, Hash)]
+pub struct Sizes {
+    /// The nodes: how many kinds there are.
+    pub nodes: usize,
+    /// One for each node.
+    pub used: usize,
+    /// [`Memory::NODE_CELLS`] for each node.
+    pub cells: usize,
+    /// One for each node.
+    pub counts: usize,
+    /// One for each node.
+    pub order: usize,
+    /// [`Memory::VERSIONS`].
+    pub versions: usize,
+    /// [`Memory::WALK_NUMBERS`].
+    pub walk_numbers: usize,
+    /// [`Memory::WALK_LEVELS`].
+    pub walk_nodes: usize,
+    /// [`Memory::WALK_LEVELS`].
+    pub walk_indices: usize,
+}
+
+impl Sizes {
+    /// The sizes of a state of so many nodes, 1 to [`Memory::MOST_NODES`]; no other number has any.
+    pub fn of(nodes: usize) -> Option<Sizes> {
+        let sizes = ffi::sizes(nodes);
+        (sizes.nodes != 0).then_some(sizes)
+    }
+}
+
 /// The nine slices of a lent state. They may hold anything and have any lengths: what doesn't fit is refused, never relied on.
 ///
 /// [`StateRef::form`](crate::StateRef::form) makes a state of them, and shows by an example how they are lent.
-#[derive(Debug, PartialEq, Eq)]
+#[derive(PartialEq, Eq)]
 pub struct Memory<'a> {
     /// A node's kind. One for each of N nodes, N from 1 to 65,536.
     pub kinds: &'a mut [u8],
@@ -65,4 +109,24 @@ impl Memory<'_> {
             walk_indices: self.walk_indices,
         }
     }
+}
+
+impl fmt::Debug for Memory<'_> {
+    fn fmt(&self, f: &mut fmt::Formatter<'_>) -> fmt::Result {
+        in_short("Memory", self.kinds, self.versions, f)
+    }
+}
+
+/// What is worth showing of a state, which may have two million cells.
+pub(crate) fn in_short(
+    name: &str,
+    kinds: &[u8],
+    versions: &[Version],
+    f: &mut fmt::Formatter<'_>,
+) -> fmt::Result {
+    let live = versions.iter().filter(|version| version.live != 0).count();
+    f.debug_struct(name)
+        .field("nodes", &kinds.len())
+        .field("live_slots", &live)
+        .finish_non_exhaustive()
 }

@@ -1,5 +1,7 @@
 //! Numbers of parties, slots and walks: three kinds that can't be mixed.
 
+use std::fmt;
+
 use crate::Refusal;
 
 /// One kind of number below a limit.
@@ -49,6 +51,12 @@ macro_rules! kind_of_number {
                 number.0
             }
         }
+
+        impl fmt::Display for $name {
+            fn fmt(&self, f: &mut fmt::Formatter<'_>) -> fmt::Result {
+                self.0.fmt(f)
+            }
+        }
     };
 }
 
@@ -61,6 +69,7 @@ kind_of_number! {
     /// assert_eq!(Party::new(7)?.number(), 7);
     /// assert_eq!(Party::new(8), Err(Refusal::NoParty));
     /// assert_eq!(Party::HOST, Party::new(0)?);
+    /// assert_eq!(Party::new(7)?.to_string(), "7");
     /// # Ok::<(), Refusal>(())
     /// ```
     Party below 8, else NoParty

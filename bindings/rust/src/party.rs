@@ -2,11 +2,12 @@
 
 use std::cmp::Ordering;
 
-use crate::{Edited, Frame, Party, Refusal, Slot, StateRef};
+use crate::{Answer, Batch, Edited, Frame, Party, PartyBatch, Refusal, Slot, StateRef};
 
 /// A handle that speaks for one party alone: it reaches no other party's slots and walks.
 ///
-/// A slot holds a version, which no call changes: an edit reads one slot and fills another, which has to be empty.
+/// A slot holds a version, which no call changes: an edit reads one slot and fills another, which has to be empty. Each call audits
+/// the whole state; [`batch`](PartyHandle::batch) puts many into one.
 #[derive(Debug)]
 pub struct PartyHandle<'a> {
     state: StateRef<'a>,
@@ -28,6 +29,43 @@ impl<'a> PartyHandle<'a> {
         self.state.party(self.party)
     }
 
+    /// A batch of this party, with no frames yet.
+    pub fn batch(&mut self) -> PartyBatch<'_> {
+        PartyBatch::of(self.lend())
+    }
+
+    /// Runs requests that someone else wrote, as [`StateRef::run_into`] does, once this party stands in each of their frames.
+    ///
+    /// ```
+    /// # use jumperloft::{Answer, Frame, Party, Refusal, Slot, State};
+    /// # let mut state = State::new(64)?;
+    /// # let ([host, plug_in, ..], slot) = (Party::ALL, Slot::ALL[0]);
+    /// let mut requests = Frame::new_vector(host, slot, 5).to_bytes();
+    /// let mut room = [0; Answer::SIZE];
+    /// state.party(plug_in).run_into(&mut requests, &mut room)?;
+    /// assert_eq!(state.party(host).len(slot), Err(Refusal::EmptySource));
+    /// assert_eq!(state.party(plug_in).len(slot), Ok(0));
+    /// # Ok::<(), Refusal>(())
+    /// ```
+    pub fn run_into(&mut self, requests: &mut [u8], room: &mut [u8]) -> Result<usize, Refusal> {
+        let (frames, _) = requests.as_chunks_mut::<{ Frame::SIZE }>();
+        for [party, ..] in frames {
+            *party = self.party.number();
+        }
+        self.state.run_into(requests, room)
+    }
+
+    pub(crate) fn runs(&mut self, batch: &Batch) -> Result<Vec<Answer>, Refusal> {
+        self.state.run(batch)
+    }
+
+    pub(crate) fn ask_each<const COUNT: usize>(
+        &mut self,
+        frames: [Frame; COUNT],
+    ) -> Result<[Answer; COUNT], Refusal> {
+        self.state.ask_each(frames)
+    }
+
     pub(crate) fn does(&mut self, frame: Frame) -> Result<(), Refusal> {
         self.state.ask(frame).map(drop)
     }
@@ -38,10 +76,6 @@ impl<'a> PartyHandle<'a> {
 
     pub(crate) fn reads(&mut self, frame: Frame) -> Result<u32, Refusal> {
         self.state.ask(frame).map(|served| served.value)
-    }
-
-    pub(crate) fn run_into(&mut self, requests: &[u8], room: &mut [u8]) -> Result<usize, Refusal> {
-        self.state.run_into(requests, room)
     }
 }
 

@@ -12,6 +12,8 @@ use std::fmt;
 ///
 /// assert_eq!(Refusal::NoNodes.number(), 10);
 /// assert_eq!(Refusal::from_number(10), Some(Refusal::NoNodes));
+/// assert_eq!(Refusal::try_from(11_u32), Ok(Refusal::IllFormed));
+/// assert_eq!(Refusal::try_from(14_u8).unwrap_err().to_string(), "14 is the number of no refusal");
 /// assert_eq!(Refusal::Full.to_string(), "the vector has 32,768 elements, which is the limit (9)");
 /// ```
 #[derive(Clone, Copy, Debug, PartialEq, Eq, Hash)]
@@ -101,6 +103,47 @@ impl fmt::Display for Refusal {
 }
 
 impl Error for Refusal {}
+
+impl From<Refusal> for u8 {
+    fn from(refusal: Refusal) -> u8 {
+        refusal.number()
+    }
+}
+
+impl From<Refusal> for u32 {
+    fn from(refusal: Refusal) -> u32 {
+        refusal.number().into()
+    }
+}
+
+impl TryFrom<u8> for Refusal {
+    type Error = NoRefusal;
+
+    fn try_from(number: u8) -> Result<Refusal, NoRefusal> {
+        Refusal::from_number(number).ok_or(NoRefusal(number.into()))
+    }
+}
+
+impl TryFrom<u32> for Refusal {
+    type Error = NoRefusal;
+
+    fn try_from(number: u32) -> Result<Refusal, NoRefusal> {
+        let known = u8::try_from(number).ok().and_then(Refusal::from_number);
+        known.ok_or(NoRefusal(number))
+    }
+}
+
+/// A number that no refusal has: 0, which says that all was done, or one above 13.
+#[derive(Clone, Copy, Debug, PartialEq, Eq, Hash)]
+pub struct NoRefusal(pub u32);
+
+impl fmt::Display for NoRefusal {
+    fn fmt(&self, f: &mut fmt::Formatter<'_>) -> fmt::Result {
+        write!(f, "{} is the number of no refusal", self.0)
+    }
+}
+
+impl Error for NoRefusal {}
 
 #[cfg(test)]
 mod tests {

@@ -1,12 +1,16 @@
 //! A state, in memory of its own or in what is lent.
 
+use std::fmt;
+
 use crate::ffi::{self, Report};
-use crate::{Answer, Batch, Frame, Host, Memory, Party, PartyHandle, Refusal, Served, Version};
+use crate::memory::in_short;
+use crate::{
+    Answer, Batch, Frame, Host, Memory, Party, PartyHandle, Refusal, Served, Sizes, Version,
+};
 
 const NUMBERS_KEPT: &str = "the library gives back document 01's numbers alone";
 
 /// A state in memory that someone else lends.
-#[derive(Debug)]
 pub struct StateRef<'a> {
     memory: Memory<'a>,
 }
@@ -36,7 +40,7 @@ impl<'a> StateRef<'a> {
     /// ```
     pub fn form(mut memory: Memory<'a>) -> Result<StateRef<'a>, Refusal> {
         frames_of(ffi::form(&mut memory))?;
-        Ok(StateRef { memory })
+        Ok(StateRef::of(memory))
     }
 
     /// The state that stands in this memory already; refused with [`Refusal::IllFormed`] if none does.
@@ -51,9 +55,13 @@ impl<'a> StateRef<'a> {
     /// # Ok::<(), Refusal>(())
     /// ```
     pub fn resume(memory: Memory<'a>) -> Result<StateRef<'a>, Refusal> {
-        let mut state = StateRef { memory };
+        let mut state = StateRef::of(memory);
         state.audit()?;
         Ok(state)
+    }
+
+    pub(crate) fn of(memory: Memory<'a>) -> StateRef<'a> {
+        StateRef { memory }
     }
 
     /// The memory, given back with the state in it.
@@ -63,9 +71,7 @@ impl<'a> StateRef<'a> {
 
     /// The same state, lent on for a shorter time.
     pub fn lend(&mut self) -> StateRef<'_> {
-        StateRef {
-            memory: self.memory.reborrow(),
-        }
+        StateRef::of(self.memory.reborrow())
     }
 
     /// A handle that speaks for one party alone.
@@ -85,18 +91,27 @@ impl<'a> StateRef<'a> {
 
     /// Runs one frame, without allocation.
     pub fn ask(&mut self, frame: Frame) -> Result<Served, Refusal> {
-        let mut room = [0; Answer::SIZE];
-        self.run_into(&frame.to_bytes(), &mut room)?;
-        Answer::from_bytes(room).expect(NUMBERS_KEPT).result()
+        let [answer] = self.ask_each([frame])?;
+        answer.result()
+    }
+
+    /// Runs a few frames in order, without allocation, and answers each.
+    pub(crate) fn ask_each<const COUNT: usize>(
+        &mut self,
+        frames: [Frame; COUNT],
+    ) -> Result<[Answer; COUNT], Refusal> {
+        let mut room = [[0; Answer::SIZE]; COUNT];
+        let requests = frames.map(Frame::to_bytes);
+        self.run_into(requests.as_flattened(), room.as_flattened_mut())?;
+        Ok(room.map(|bytes| Answer::from_bytes(bytes).expect(NUMBERS_KEPT)))
     }
 
     /// Runs the frames in order and answers each; a refused frame is answered too, and the next one runs.
     pub fn run(&mut self, batch: &Batch) -> Result<Vec<Answer>, Refusal> {
         let mut room = vec![0; Answer::SIZE * batch.len()];
         self.run_into(batch.as_bytes(), &mut room)?;
-        let (answers, _) = room.as_chunks();
-        let answer = |bytes: &[u8; Answer::SIZE]| Answer::from_bytes(*bytes).expect(NUMBERS_KEPT);
-        Ok(answers.iter().map(answer).collect())
+        let answers = Answer::each_in(&room);
+        Ok(answers.map(|answer| answer.expect(NUMBERS_KEPT)).collect())
     }
 
     /// The same over bytes, without allocation: tells how many frames ran, and answers each at its 6 bytes of the room. The room
@@ -124,14 +139,24 @@ fn frames_of(report: Report) -> Result<usize, Refusal> {
     if report.number == 0 {
         return Ok(report.frames);
     }
-    let refusal = u8::try_from(report.number)
-        .ok()
-        .and_then(Refusal::from_number);
-    Err(refusal.expect(NUMBERS_KEPT))
+    Err(Refusal::try_from(report.number).expect(NUMBERS_KEPT))
+}
+
+impl fmt::Debug for StateRef<'_> {
+    fn fmt(&self, f: &mut fmt::Formatter<'_>) -> fmt::Result {
+        in_short("StateRef", self.memory.kinds, self.memory.versions, f)
+    }
 }
 
 /// A state that owns its memory. It offers the calls of [`StateRef`].
-#[derive(Clone, Debug)]
+///
+/// ```
+/// # use jumperloft::{Refusal, State};
+/// let state = State::new(65_536)?;
+/// assert_eq!(format!("{state:?}"), "State { nodes: 65536, live_slots: 0, .. }");
+/// # Ok::<(), Refusal>(())
+/// ```
+#[derive(Clone)]
 pub struct State {
     kinds: Vec<u8>,
     used: Vec<u8>,
@@ -155,19 +180,17 @@ impl State {
     /// # Ok::<(), Refusal>(())
     /// ```
     pub fn new(nodes: usize) -> Result<State, Refusal> {
-        if nodes > Memory::MOST_NODES {
-            return Err(Refusal::IllFormed);
-        }
+        let sizes = Sizes::of(nodes).ok_or(Refusal::IllFormed)?;
         let mut state = State {
-            kinds: vec![0; nodes],
-            used: vec![0; nodes],
-            counts: vec![0; nodes],
-            cells: vec![0; Memory::NODE_CELLS * nodes],
-            order: vec![0; nodes],
-            versions: vec![Version::default(); Memory::VERSIONS],
-            walk_numbers: vec![0; Memory::WALK_NUMBERS],
-            walk_nodes: vec![0; Memory::WALK_LEVELS],
-            walk_indices: vec![0; Memory::WALK_LEVELS],
+            kinds: blank(sizes.nodes),
+            used: blank(sizes.used),
+            counts: blank(sizes.counts),
+            cells: blank(sizes.cells),
+            order: blank(sizes.order),
+            versions: blank(sizes.versions),
+            walk_numbers: blank(sizes.walk_numbers),
+            walk_nodes: blank(sizes.walk_nodes),
+            walk_indices: blank(sizes.walk_indices),
         };
         StateRef::form(state.lend().into_memory())?;
         Ok(state)
@@ -186,7 +209,7 @@ impl State {
             walk_nodes: &mut self.walk_nodes,
             walk_indices: &mut self.walk_indices,
         };
-        StateRef { memory }
+        StateRef::of(memory)
     }
 
     /// A handle that speaks for one party alone.
@@ -217,5 +240,16 @@ impl State {
     /// See [`StateRef::run_into`].
     pub fn run_into(&mut self, requests: &[u8], room: &mut [u8]) -> Result<usize, Refusal> {
         self.lend().run_into(requests, room)
+    }
+}
+
+/// So many zeros, or records of zeros.
+fn blank<T: Clone + Default>(count: usize) -> Vec<T> {
+    vec![T::default(); count]
+}
+
+impl fmt::Debug for State {
+    fn fmt(&self, f: &mut fmt::Formatter<'_>) -> fmt::Result {
+        in_short("State", &self.kinds, &self.versions, f)
     }
 }

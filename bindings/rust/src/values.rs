@@ -1,5 +1,6 @@
 //! A walk as an iterator.
 
+use std::fmt;
 use std::iter::FusedIterator;
 
 use crate::{Answer, Frame, PartyHandle, Walk};
@@ -13,7 +14,6 @@ const HELD_ALONE: &str = "a state that is held alone stays well-formed, and its 
 ///
 /// It takes elements from the walk up to 256 at a time, as each batch audits the whole state. An iterator that is forgotten, not
 /// dropped, leaves its walk open.
-#[derive(Debug)]
 pub struct Values<'a> {
     party: PartyHandle<'a>,
     walk: Walk,
@@ -24,7 +24,6 @@ pub struct Values<'a> {
 }
 
 /// Elements taken from one end of the walk and not yet given on, the outermost first.
-#[derive(Debug)]
 struct Ahead {
     values: [u32; AHEAD],
     start: usize,
@@ -69,20 +68,22 @@ impl<'a> Values<'a> {
     /// Takes elements from one end of the walk, by as many frames as there are elements or as fit.
     fn take(&mut self, frame: Frame) -> Ahead {
         let count = self.untaken.min(AHEAD);
-        let requests = [frame.to_bytes(); AHEAD];
+        let mut requests = [frame.to_bytes(); AHEAD];
         let mut room = [[0; Answer::SIZE]; AHEAD];
+        let (requests, room) = (&mut requests[..count], &mut room[..count]);
         let ran = self
             .party
-            .run_into(requests[..count].as_flattened(), room.as_flattened_mut());
+            .run_into(requests.as_flattened_mut(), room.as_flattened_mut());
         ran.expect(HELD_ALONE);
         self.untaken -= count;
         let mut ahead = Ahead {
             end: count,
             ..Ahead::NONE
         };
-        for (value, bytes) in ahead.values.iter_mut().zip(&room[..count]) {
-            let answer = Answer::from_bytes(*bytes).map(Answer::result);
-            *value = answer.and_then(Result::ok).expect(HELD_ALONE).value;
+        let answers = Answer::each_in(room.as_flattened());
+        for (value, answer) in ahead.values.iter_mut().zip(answers) {
+            let served = answer.and_then(|answer| answer.result().ok());
+            *value = served.expect(HELD_ALONE).value;
         }
         ahead
     }
@@ -121,5 +122,15 @@ impl Drop for Values<'_> {
     fn drop(&mut self) {
         // it is open, since nobody else could close it
         let _ = self.party.close_walk(self.walk);
+    }
+}
+
+impl fmt::Debug for Values<'_> {
+    fn fmt(&self, f: &mut fmt::Formatter<'_>) -> fmt::Result {
+        f.debug_struct("Values")
+            .field("party", &self.party)
+            .field("walk", &self.walk)
+            .field("left", &self.len())
+            .finish_non_exhaustive()
     }
 }

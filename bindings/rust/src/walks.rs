@@ -20,9 +20,12 @@ impl PartyHandle<'_> {
     /// # Ok::<(), Refusal>(())
     /// ```
     pub fn values(&mut self, slot: Slot, walk: Walk) -> Result<Values<'_>, Refusal> {
-        let length = self.len(slot)?;
-        self.open_walk(slot, walk)?;
-        Ok(Values::of(self.lend(), walk, length as usize))
+        let party = self.party();
+        let frames = [Frame::len(party, slot), Frame::open_walk(party, slot, walk)];
+        let [length, opened] = self.ask_each(frames)?;
+        opened.result()?;
+        let untaken = length.result()?.value as usize;
+        Ok(Values::of(self.lend(), walk, untaken))
     }
 
     /// Opens a walk over the version in a slot.
