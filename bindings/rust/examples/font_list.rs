@@ -1,7 +1,9 @@
 //! A layout program that lends a state to its plug-ins: one keeps the list of fonts, another shows it.
 
+use std::ops::Range;
+
 use jumperloft::{
-    Memory, Party, PartyHandle, Refusal, Slot, StateRef, Version, Walk, DEFAULT_BITS,
+    Answer, DEFAULT_BITS, Memory, Party, PartyHandle, Refusal, Slot, StateRef, Version, Walk,
 };
 
 const NODES: usize = 256;
@@ -9,15 +11,29 @@ const FONTS: [&str; 4] = ["Bembo", "Garamond", "Jenson", "Sabon"];
 
 /// The slot in which each plug-in has the list that is shown.
 const SHOWN: Slot = Slot::ALL[0];
-/// The slot in which a longer list is made.
-const NEXT: Slot = Slot::ALL[1];
+/// The slots in which a longer list is made.
+const MAKING: [Slot; 2] = [Slot::ALL[1], Slot::ALL[2]];
 
-/// The plug-in that keeps the list: a font's number is added, and the longer list takes the place of the one before.
-fn add_font(keeper: &mut PartyHandle<'_>, font: u32) -> Result<(), Refusal> {
-    keeper.push_back(SHOWN, NEXT, font)?;
-    keeper.release(SHOWN)?;
-    keeper.clone_slot(NEXT, SHOWN)?;
-    keeper.release(NEXT)
+/// The plug-in that keeps the list: fonts' numbers are added in one call, then the longer list takes the place of the one before.
+fn add_fonts(keeper: &mut PartyHandle<'_>, fonts: Range<u32>) -> Result<(), Refusal> {
+    let [mut from, mut to] = MAKING;
+    let mut batch = keeper.batch();
+    batch.clone_slot(SHOWN, from);
+    for font in fonts {
+        batch.push_back(from, to, font).release(from);
+        (from, to) = (to, from);
+    }
+    // a refused frame doesn't stop the next ones, so what is shown is let go only now
+    all_done(&batch.run()?)?;
+    let mut batch = keeper.batch();
+    batch.release(SHOWN).clone_slot(from, SHOWN).release(from);
+    all_done(&batch.run()?)
+}
+
+fn all_done(answers: &[Answer]) -> Result<(), Refusal> {
+    answers
+        .iter()
+        .try_for_each(|answer| answer.result().map(drop))
 }
 
 /// The plug-in that shows the list which it was handed.
@@ -46,13 +62,11 @@ fn main() -> Result<(), Refusal> {
     let [_, keeper, menu, ..] = Party::ALL;
 
     state.party(keeper).new_vector(SHOWN, DEFAULT_BITS)?;
-    for font in 0..3 {
-        add_font(&mut state.party(keeper), font)?;
-    }
+    add_fonts(&mut state.party(keeper), 0..3)?;
     state.host().hand_over(keeper, SHOWN, menu, SHOWN)?;
 
     // what the menu was handed stays as it is, whatever the keeper adds
-    add_font(&mut state.party(keeper), 3)?;
+    add_fonts(&mut state.party(keeper), 3..4)?;
     show(&mut state.party(menu))?;
     println!("The keeper has {}.", state.party(keeper).len(SHOWN)?);
     println!("{} of {NODES} nodes are free.", state.host().free_nodes()?);

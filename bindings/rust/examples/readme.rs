@@ -1,14 +1,17 @@
-use jumperloft::{Party, Refusal, Slot, State, Walk, DEFAULT_BITS};
+use jumperloft::{DEFAULT_BITS, Party, Refusal, Slot, State, Walk};
 
 fn main() -> Result<(), Refusal> {
     let mut state = State::new(256)?; // nodes
     let mut plug_in = state.party(Party::new(1)?); // speaks for party 1 alone
     let ([empty, one, two, ..], [walk, _]) = (Slot::ALL, Walk::ALL);
 
-    plug_in.new_vector(empty, DEFAULT_BITS)?;
-    plug_in.push_back(empty, one, 7)?; // fills a slot; the source stays as it is
-    let edited = plug_in.push_back(one, two, 9)?;
-    assert_eq!(edited.fresh, 1); // nodes that were free before
+    let answers = plug_in
+        .batch() // all of these in one call
+        .new_vector(empty, DEFAULT_BITS)
+        .push_back(empty, one, 7) // fills a slot; the source stays as it is
+        .push_back(one, two, 9)
+        .run()?;
+    assert_eq!(answers[2].result()?.fresh, 1); // nodes that were free before
 
     let backwards: Vec<u32> = plug_in.values(two, walk)?.rev().collect();
     assert_eq!(backwards, [9, 7]);

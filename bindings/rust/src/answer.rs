@@ -96,30 +96,3 @@ impl From<Served> for Edited {
         }
     }
 }
-
-#[cfg(test)]
-mod tests {
-    use super::{Answer, Served};
-    use crate::Refusal;
-
-    #[test]
-    fn bytes_come_back() {
-        for result in [
-            Ok(Served {
-                fresh: 15,
-                value: 0x0102_0304,
-            }),
-            Err(Refusal::Full),
-        ] {
-            let answer = Answer::from(result);
-            assert_eq!(Answer::from_bytes(answer.to_bytes()), Some(answer));
-        }
-    }
-
-    #[test]
-    fn what_is_no_answer_is_none() {
-        assert_eq!(Answer::from_bytes([14, 0, 0, 0, 0, 0]), None);
-        assert_eq!(Answer::from_bytes([8, 1, 0, 0, 0, 0]), None);
-        assert_eq!(Answer::from_bytes([8, 0, 0, 0, 0, 1]), None);
-    }
-}

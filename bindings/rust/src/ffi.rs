@@ -17,7 +17,7 @@ pub(crate) struct Report {
 
 // A slice is passed as its first element's address and its length.
 #[rustfmt::skip]
-extern "C" {
+unsafe extern "C" {
     fn jumperloft1_sizes(nodes: usize) -> Sizes;
     fn jumperloft1_form(
         kinds: *mut u8, kinds_len: usize, used: *mut u8, used_len: usize, counts: *mut u32, counts_len: usize,

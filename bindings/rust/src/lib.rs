@@ -4,7 +4,7 @@
 //! for Rust. What each call answers, refuses and costs is decided by document 01 of the project.
 //!
 //! ```
-//! use jumperloft::{Party, Refusal, Slot, State, Walk, DEFAULT_BITS};
+//! use jumperloft::{DEFAULT_BITS, Party, Refusal, Slot, State, Walk};
 //!
 //! let mut state = State::new(256)?;
 //! let mut plug_in = state.party(Party::new(1)?);
@@ -48,6 +48,8 @@ mod host;
 mod lent;
 mod memory;
 mod numbers;
+mod operation;
+mod owned;
 mod party;
 mod party_batch;
 mod refusal;
@@ -57,15 +59,17 @@ mod walks;
 
 pub use answer::{Answer, Edited, Served};
 pub use batch::{Batch, Frames};
-pub use frame::{Frame, Operation};
+pub use frame::Frame;
 pub use host::Host;
 pub use lent::LentState;
 pub use memory::{Memory, Sizes, Version};
 pub use numbers::{Party, Slot, Walk};
+pub use operation::Operation;
+pub use owned::State;
 pub use party::PartyHandle;
 pub use party_batch::PartyBatch;
 pub use refusal::{NoRefusal, Refusal};
-pub use state::{State, StateRef};
+pub use state::StateRef;
 pub use values::Values;
 
 /// The bits of a vector whose maker doesn't care: nodes of 32 cells.

@@ -110,23 +110,3 @@ kind_of_number! {
     /// ```
     Walk below 2, else OutOfRange
 }
-
-#[cfg(test)]
-mod tests {
-    use super::{Party, Slot, Walk};
-    use crate::Refusal;
-
-    #[test]
-    fn all_numbers_in_range_and_no_others() {
-        for number in 0..=u8::MAX {
-            let at = usize::from(number);
-            assert_eq!(Party::new(number).ok(), Party::ALL.get(at).copied());
-            assert_eq!(Slot::new(number).ok(), Slot::ALL.get(at).copied());
-            assert_eq!(Walk::new(number).ok(), Walk::ALL.get(at).copied());
-            assert!(
-                Slot::try_from(number).is_ok_and(|slot| u8::from(slot) == number) || number > 7
-            );
-        }
-        assert_eq!(Party::new(8), Err(Refusal::NoParty));
-    }
-}

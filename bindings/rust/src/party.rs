@@ -84,7 +84,7 @@ impl PartyHandle<'_> {
     /// Fills a slot with an empty vector whose nodes have 2 to the power `bits` cells; bits are 1 to 5.
     ///
     /// ```
-    /// # use jumperloft::{Party, Refusal, Slot, State, DEFAULT_BITS};
+    /// # use jumperloft::{DEFAULT_BITS, Party, Refusal, Slot, State};
     /// # let mut state = State::new(64)?;
     /// # let slot = Slot::ALL[0];
     /// let mut plug_in = state.party(Party::new(1)?);

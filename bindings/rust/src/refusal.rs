@@ -144,26 +144,3 @@ impl fmt::Display for NoRefusal {
 }
 
 impl Error for NoRefusal {}
-
-#[cfg(test)]
-mod tests {
-    use super::Refusal;
-
-    #[test]
-    fn numbers_are_1_to_13_in_order() {
-        let numbers: Vec<u8> = Refusal::ALL
-            .iter()
-            .map(|refusal| refusal.number())
-            .collect();
-        assert_eq!(numbers, (1..=13).collect::<Vec<u8>>());
-    }
-
-    #[test]
-    fn a_number_and_its_refusal_belong_together() {
-        for number in 0..=u8::MAX {
-            let refusal = Refusal::from_number(number);
-            assert_eq!(refusal.is_some(), (1..=13).contains(&number));
-            assert!(refusal.is_none_or(|refusal| refusal.number() == number));
-        }
-    }
-}

@@ -1,42 +1,13 @@
 //! Random calls of several parties against the plain table: every answer, every refusal and every fresh count.
 
-mod frames;
-mod model;
-mod random;
-
 use std::collections::HashSet;
 
-use frames::random_frame;
-use jumperloft::{
-    Answer, Batch, Frame, Memory, Party, Refusal, Served, Slot, State, Version, Walk,
-};
-use model::Model;
-use random::Random;
+use jumperloft::{Answer, Batch, Frame, Party, Refusal, Served, Slot, State, Walk};
 
-/// All that is lent.
-#[derive(PartialEq, Debug)]
-struct Snapshot(Vec<u8>, Vec<u32>, Vec<Version>, Vec<i32>);
-
-fn snapshot(state: &mut State) -> Snapshot {
-    let Memory {
-        kinds,
-        used,
-        counts,
-        cells,
-        order,
-        versions,
-        walk_numbers,
-        walk_nodes,
-        walk_indices,
-    } = state.lend().into_memory();
-    let words = [counts, cells, order, walk_numbers, walk_nodes].concat();
-    Snapshot(
-        [kinds, used].concat(),
-        words,
-        versions.to_vec(),
-        walk_indices.to_vec(),
-    )
-}
+use crate::frames::random_frame;
+use crate::model::Model;
+use crate::random::Random;
+use crate::snapshot::Snapshot;
 
 fn fresh(answer: Result<jumperloft::Edited, Refusal>) -> Result<Served, Refusal> {
     answer.map(|edited| Served {
@@ -115,7 +86,10 @@ fn calls_agree(seed: u64, nodes: usize, calls: usize) -> (HashSet<Refusal>, usiz
     let (mut random, mut met, mut longest) = (Random::new(seed), HashSet::new(), 0);
     for number in 0..calls {
         let frame = random_frame(&mut random, &model);
-        let (free, before) = (state.host().free_nodes().unwrap(), snapshot(&mut state));
+        let (free, before) = (
+            state.host().free_nodes().unwrap(),
+            Snapshot::of(state.lend().into_memory()),
+        );
         let said = call(&mut state, frame);
         assert_eq!(
             said,
@@ -126,7 +100,7 @@ fn calls_agree(seed: u64, nodes: usize, calls: usize) -> (HashSet<Refusal>, usiz
             Err(refusal) => {
                 met.insert(refusal);
                 assert_eq!(
-                    snapshot(&mut state),
+                    Snapshot::of(state.lend().into_memory()),
                     before,
                     "seed {seed}, call {number}: {frame:?}"
                 );

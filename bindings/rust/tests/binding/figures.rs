@@ -1,11 +1,10 @@
 //! Document 01's example and figures.
 
-mod filled;
-
 use std::cmp::Ordering;
 
-use filled::filled;
 use jumperloft::{Answer, Batch, Frame, Party, Slot, State};
+
+use crate::filled::filled;
 
 const REQUESTS: [u128; 8] = [
     0x010000000000000500000000,

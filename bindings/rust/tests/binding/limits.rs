@@ -1,11 +1,8 @@
 //! What is refused at the limits: sizes, lengths, bits, and batches as a whole.
 
-mod filled;
+use jumperloft::{Answer, Frame, MOST_ELEMENTS, Party, Refusal, Slot, State};
 
-use filled::filled;
-use jumperloft::{
-    Answer, Frame, Memory, Party, Refusal, Slot, State, StateRef, Version, MOST_ELEMENTS,
-};
+use crate::filled::filled;
 
 #[test]
 fn a_state_has_1_to_65_536_nodes() {
@@ -17,40 +14,6 @@ fn a_state_has_1_to_65_536_nodes() {
             State::new(nodes).unwrap().host().free_nodes(),
             Ok(nodes as u32)
         );
-    }
-}
-
-#[test]
-fn slices_that_do_not_fit_are_refused_and_stay_as_they_are() {
-    const NODES: usize = 4;
-    for misfit in 0..9 {
-        let size = |slice: usize, size: usize| size + usize::from(slice == misfit);
-        let (mut bytes, mut words, mut records, mut indices) = (
-            [[7; 16]; 2],
-            [[7; 1_024]; 5],
-            [Version::default(); 65],
-            [7; 481],
-        );
-        let [kinds, used] = &mut bytes;
-        let [counts, cells, order, walk_numbers, walk_nodes] = &mut words;
-        let memory = Memory {
-            kinds: &mut kinds[..size(0, NODES)],
-            used: &mut used[..size(1, NODES)],
-            counts: &mut counts[..size(2, NODES)],
-            cells: &mut cells[..size(3, NODES * Memory::NODE_CELLS)],
-            order: &mut order[..size(4, NODES)],
-            versions: &mut records[..size(5, Memory::VERSIONS)],
-            walk_numbers: &mut walk_numbers[..size(6, Memory::WALK_NUMBERS)],
-            walk_nodes: &mut walk_nodes[..size(7, Memory::WALK_LEVELS)],
-            walk_indices: &mut indices[..size(8, Memory::WALK_LEVELS)],
-        };
-        assert_eq!(
-            StateRef::form(memory).err(),
-            Some(Refusal::IllFormed),
-            "slice {misfit}"
-        );
-        assert!(bytes == [[7; 16]; 2] && words == [[7; 1_024]; 5] && indices == [7; 481]);
-        assert_eq!(records, [Version::default(); 65]);
     }
 }
 
@@ -103,5 +66,24 @@ fn bits_are_1_to_5() {
         let made = state.party(Party::HOST).new_vector(slot, bits);
         assert_eq!(made.is_ok(), (1..=5).contains(&bits));
         assert!(made.is_ok() || made == Err(Refusal::BadBits));
+    }
+}
+
+#[test]
+fn indices_values_and_bits_are_whole_words() {
+    let (mut state, slot) = filled(64, 5, 3);
+    let mut party = state.party(Party::ALL[1]);
+    let other = Slot::ALL[5];
+    // the low bytes of each, alone, would be an index or bits that are there
+    for word in [1 << 8 | 1, 1 << 16 | 1, 1 << 24 | 1, u32::MAX << 8 | 1] {
+        assert_eq!(party.get(slot, word), Err(Refusal::NothingThere));
+        assert_eq!(party.set(slot, other, word, 1), Err(Refusal::NothingThere));
+        assert_eq!(party.new_vector(other, word), Err(Refusal::BadBits));
+        party.push_back(slot, other, word).unwrap();
+        assert_eq!(party.last(other), Ok(word));
+        party.release(other).unwrap();
+        party.set(slot, other, 1, word).unwrap();
+        assert_eq!(party.get(other, 1), Ok(word));
+        party.release(other).unwrap();
     }
 }

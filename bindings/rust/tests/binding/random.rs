@@ -15,7 +15,6 @@ impl Random {
         ((self.0 >> 32) as u32) % limit
     }
 
-    #[allow(dead_code)] // not by every test
     pub fn one_of<T: Copy>(&mut self, choices: &[T]) -> Option<T> {
         let limit = u32::try_from(choices.len())
             .ok()

@@ -1,13 +1,11 @@
 //! The iterator from both ends, at the lengths where a leaf, a branch or what is taken ahead is full.
 
-mod filled;
-mod random;
-
 use std::collections::VecDeque;
 
-use filled::filled;
 use jumperloft::{Party, Refusal, Walk};
-use random::Random;
+
+use crate::filled::filled;
+use crate::random::Random;
 
 const NODES: usize = 4_096;
 const WALK: Walk = Walk::ALL[0];
