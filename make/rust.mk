@@ -15,4 +15,4 @@ rust-binding: host-library
 # wrong bindings, made by rule, each of which the tests have to notice; RUST_MUTANTS='--only ffi.rs' tries those of one file
 rust-mutants: host-library
 	@if ! command -v cargo >/dev/null 2>&1; then echo 'rust-mutants: SKIPPED, there is no cargo on this machine'; \
-	else python3 bindings/rust/mutants.py '$(BUILT_LIBRARY)' target/rust_mutants $(RUST_MUTANTS); fi
+	else python3 bindings/rust/mutants/run.py '$(BUILT_LIBRARY)' target/rust_mutants $(RUST_MUTANTS); fi

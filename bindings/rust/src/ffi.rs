@@ -58,8 +58,8 @@ macro_rules! call_on {
             $memory.order.as_mut_ptr(), $memory.order.len(), $memory.versions.as_mut_ptr(), $memory.versions.len(),
             $memory.walk_numbers.as_mut_ptr(), $memory.walk_numbers.len(),
             $memory.walk_nodes.as_mut_ptr(), $memory.walk_nodes.len(),
-            $memory.walk_indices.as_mut_ptr(), $memory.walk_indices.len()
-            $(, $more)*
+            $memory.walk_indices.as_mut_ptr(), $memory.walk_indices.len(),
+            $($more),*
         )
     };
 }

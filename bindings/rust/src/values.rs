@@ -74,12 +74,11 @@ impl<'a> Values<'a> {
         let ran = self
             .party
             .run_into(requests.as_flattened_mut(), room.as_flattened_mut());
-        ran.expect(HELD_ALONE);
-        self.untaken -= count;
         let mut ahead = Ahead {
-            end: count,
+            end: ran.expect(HELD_ALONE),
             ..Ahead::NONE
         };
+        self.untaken -= ahead.end;
         let answers = Answer::each_in(room.as_flattened());
         for (value, answer) in ahead.values.iter_mut().zip(answers) {
             let served = answer.and_then(|answer| answer.result().ok());

@@ -86,43 +86,26 @@ fn calls_agree(seed: u64, nodes: usize, calls: usize) -> (HashSet<Refusal>, usiz
     let (mut random, mut met, mut longest) = (Random::new(seed), HashSet::new(), 0);
     for number in 0..calls {
         let frame = random_frame(&mut random, &model);
-        let (free, before) = (
-            state.host().free_nodes().unwrap(),
-            Snapshot::of(state.lend().into_memory()),
-        );
-        let said = call(&mut state, frame);
-        assert_eq!(
-            said,
-            model.answer(frame, free),
-            "seed {seed}, call {number}: {frame:?}"
-        );
-        match said {
+        let which = format!("seed {seed}, call {number}: {frame:?}");
+        let free = state.host().free_nodes().unwrap();
+        let right = model.answer(frame, free);
+        match right {
             Err(refusal) => {
                 met.insert(refusal);
-                assert_eq!(
-                    Snapshot::of(state.lend().into_memory()),
-                    before,
-                    "seed {seed}, call {number}: {frame:?}"
-                );
-            }
-            Ok(served) if matches!(frame.operation, 0x02 | 0x0B) => {
-                assert!(served.fresh == 0 && state.host().free_nodes().unwrap() >= free);
+                let before = Snapshot::of(state.lend().into_memory());
+                assert_eq!(call(&mut state, frame), right, "{which}");
+                assert_eq!(Snapshot::of(state.lend().into_memory()), before, "{which}");
             }
             Ok(served) => {
-                assert_eq!(
-                    state.host().free_nodes().unwrap(),
-                    free - u32::from(served.fresh)
-                );
+                assert_eq!(call(&mut state, frame), right, "{which}");
+                let now = state.host().free_nodes().unwrap();
+                let gives_back = matches!(frame.operation, 0x02 | 0x0B);
+                let spent = free - u32::from(served.fresh);
+                assert!(now == spent || gives_back && now > spent, "{which}");
             }
         }
-        longest = longest.max(
-            model
-                .slots
-                .values()
-                .map(|vector| vector.values.len())
-                .max()
-                .unwrap_or(0),
-        );
+        let lengths = model.slots.values().map(|vector| vector.values.len());
+        longest = lengths.max().unwrap_or(0).max(longest);
     }
     all_values_agree(&mut state, &model);
     (met, longest)

@@ -1,6 +1,6 @@
 //! What is refused at the limits: sizes, lengths, bits, and batches as a whole.
 
-use jumperloft::{Answer, Frame, MOST_ELEMENTS, Party, Refusal, Slot, State};
+use jumperloft::{Answer, Batch, Frame, MOST_ELEMENTS, Party, Refusal, Slot, State, Walk};
 
 use crate::filled::filled;
 
@@ -19,18 +19,31 @@ fn a_state_has_1_to_65_536_nodes() {
 
 #[test]
 fn a_damaged_state_is_refused_until_it_is_mended() {
-    let mut state = State::new(16).unwrap();
+    let (mut state, slot) = filled(16, 5, 3);
     state.lend().into_memory().kinds[3] = 9;
-    let mut room = [7; Answer::SIZE];
-    let requests = Frame::free_nodes().to_bytes();
-    assert_eq!(
-        state.run_into(&requests, &mut room),
-        Err(Refusal::IllFormed)
-    );
-    assert_eq!(room, [7; Answer::SIZE]);
-    assert_eq!(state.audit(), Err(Refusal::IllFormed));
+    every_way_of_asking_is(Err(Refusal::IllFormed), &mut state, slot);
     state.lend().into_memory().kinds[3] = 0;
-    assert_eq!(state.audit(), Ok(()));
+    every_way_of_asking_is(Ok(()), &mut state, slot);
+}
+
+fn every_way_of_asking_is(right: Result<(), Refusal>, state: &mut State, slot: Slot) {
+    let mut requests = Frame::free_nodes().to_bytes();
+    let batch = Batch::from_iter([Frame::free_nodes()]);
+    let (party, other, walk) = (Party::ALL[1], Slot::ALL[7], Walk::ALL[0]);
+    let mut room = [7; Answer::SIZE];
+    assert_eq!(state.audit(), right);
+    assert_eq!(state.run_into(&requests, &mut room).map(drop), right);
+    assert_eq!(room == [7; Answer::SIZE], right.is_err());
+    assert_eq!(state.run(&batch).map(drop), right);
+    assert_eq!(state.ask(Frame::free_nodes()).map(drop), right);
+    assert_eq!(state.host().free_nodes().map(drop), right);
+    let mut party = state.party(party);
+    assert_eq!(party.run_into(&mut requests, &mut room).map(drop), right);
+    assert_eq!(party.batch().len(slot).run().map(drop), right);
+    assert_eq!(party.values(slot, walk).map(drop), right);
+    assert_eq!(party.len(slot).map(drop), right);
+    assert_eq!(party.clone_slot(slot, other), right);
+    assert_eq!(party.release(other), right);
 }
 
 #[test]

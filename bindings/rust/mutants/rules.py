@@ -1,34 +1,12 @@
-#!/usr/bin/env python3
-"""Wrong bindings, made by rule, each of which the crate's tests have to notice.
+"""The rules by which wrong bindings are made of the crate's sources.
 
-mutants.py ARCHIVE DIRECTORY [--only TEXT] [--jobs N] [--list]
-
-Each is the crate with one change in src/. It is compiled and tested in a copy below DIRECTORY; those that pass are printed, unless
-EQUIVALENT says why no test could notice them. --only takes those whose description has the text; --list shows them all.
+A rule takes a file's text, and the same with all but the code blanked; it gives what is done, where, and the changed text.
 """
-import argparse
-import collections
-import concurrent.futures
 import itertools
-import os
 import pathlib
 import re
-import resource
-import shutil
-import subprocess
-import sys
-import threading
 
-HERE = pathlib.Path(__file__).resolve().parent
-REPOSITORY = HERE.parent.parent
-TIMEOUT = 120
-MEMORY = 8 << 30
-
-# What makes no difference to anyone: a pattern for the description, and the reason.
-EQUIVALENT = []
-
-Mutant = collections.namedtuple("Mutant", "about file text")
-
+SOURCES = pathlib.Path(__file__).resolve().parent.parent / "src"
 
 # ---- the code alone
 
@@ -64,6 +42,10 @@ def trimmed(code, start, end):
     return start, end
 
 
+def line_at(text, at):
+    return text[text.rfind("\n", 0, at) + 1 : text.find("\n", at)].strip()
+
+
 def put(text, *changes):
     """The text with other words at the places."""
     for (start, end), words in sorted(changes, reverse=True):
@@ -75,7 +57,7 @@ def exchanged(text, one, other):
     return put(text, (one, text[slice(*other)]), (other, text[slice(*one)]))
 
 
-# ---- the rules: each gives what is done, where, and the changed text
+# ---- the rules
 
 
 def constants(text, code):
@@ -166,6 +148,13 @@ def lengths(text, code):
     for found in re.finditer(r"(?<!fn )[\w.$]+\.len\(\)|(?<!\.)\bsizes\.\w+(?=\))|\b(?:Answer|Frame)::SIZE(?= \*)|\bcount\b(?=[\],)])", code):
         for change in (" + 1", " - 1"):
             yield f"{found[0]}{change}", found.span(), put(text, (found.span(), f"({found[0]}{change})"))
+    # a slice's length for that of another which is as long, or may be
+    handed = [[rf"$memory.{name}.len()" for name in ("kinds", "used", "counts", "order")]]
+    handed += [["$memory.walk_nodes.len()", "$memory.walk_indices.len()"], ["requests.len()", "room.len()"]]
+    for group in handed:
+        for one, other in itertools.permutations(group, 2):
+            for found in re.finditer(rf"(?<![\w.]){re.escape(one)}", code):
+                yield f"{one} becomes {other}", found.span(), put(text, (found.span(), other))
 
 
 def names(text, code):
@@ -175,13 +164,13 @@ def names(text, code):
     groups = [(r"\bFrame::({})(?=\()", group) for group in makers]
     groups += [(r"\.({})(?=\()", group) for group in steps]
     groups += [(r"\b({})(?=\()", ["from_be_bytes", "from_le_bytes"]), (r"\bself\.({})\b", ["front", "back"])]
-    groups += [(r"\bself\.({})\b", ["start", "end"]), (r"\bdoes|edits|reads\b", [])]
+    groups += [(r"\bself\.({})\b", ["start", "end"])]
     for kind in ("Operation", "Refusal"):
-        listed = (HERE / f"src/{kind.lower()}.rs").read_text()
+        listed = (SOURCES / f"{kind.lower()}.rs").read_text()
         listed = re.findall(rf"\n    (\w+) = ", listed)
         groups.append((rf"\b{kind}::({{}})\b", listed))
     for pattern, group in groups:
-        for found in re.finditer(pattern.format("|".join(group)), code) if group else []:
+        for found in re.finditer(pattern.format("|".join(group)), code):
             at = group.index(found[1])
             # of a long list, the neighbours
             others = group if len(group) < 5 else [group[at - 1], group[(at + 1) % len(group)]]
@@ -204,120 +193,3 @@ def steps(text, code):
 
 
 RULES = [constants, fields, values, arguments, bounds, lengths, names, steps]
-
-
-def line_at(text, at):
-    return text[text.rfind("\n", 0, at) + 1 : text.find("\n", at)].strip()
-
-
-def all_mutants():
-    made = {}
-    for file in sorted((HERE / "src").glob("*.rs")):
-        text = file.read_text()
-        for rule in RULES:
-            for about, span, changed in rule(text, code_of(text)):
-                line = text.count("\n", 0, span[0]) + 1
-                about = re.sub(r"\s+", " ", about)
-                about = f"{file.name}:{line}: {rule.__name__}: {about} | {line_at(text, span[0])}"
-                made.setdefault((file.name, changed), Mutant(about, file.name, changed))
-    return list(made.values())
-
-
-# ---- trying them
-
-
-class Copy:
-    """A copy of the crate and of what its tests read, to be changed and tested again and again."""
-
-    def __init__(self, folder, archive):
-        self.crate = folder / "bindings/rust"
-        for part in ("bindings/rust/src", "bindings/rust/tests", "bindings/rust/examples", "include"):
-            shutil.rmtree(folder / part, ignore_errors=True)
-            shutil.copytree(REPOSITORY / part, folder / part)
-        files = ["bindings/rust/" + name for name in ("Cargo.toml", "Cargo.lock", "build.rs", "README.md")]
-        for name in files + ["README.md", "crates/number_table/stdout"]:
-            (folder / name).parent.mkdir(parents=True, exist_ok=True)
-            shutil.copy(REPOSITORY / name, folder / name)
-        self.environment = dict(os.environ, JUMPERLOFT_LIBRARY=str(archive), CARGO_PROFILE_DEV_DEBUG="0", RUST_BACKTRACE="0")
-
-    def cargo(self, *words):
-        """Whether it succeeds in time."""
-        def limited():
-            os.setsid()
-            resource.setrlimit(resource.RLIMIT_AS, (MEMORY, MEMORY))
-            resource.setrlimit(resource.RLIMIT_CORE, (0, 0))
-        with subprocess.Popen(
-            ["cargo", *words, "--offline", "--quiet"], cwd=self.crate, env=self.environment, preexec_fn=limited,
-            stdout=subprocess.DEVNULL, stderr=subprocess.DEVNULL,
-        ) as process:
-            try:
-                return process.wait(TIMEOUT) == 0
-            except subprocess.TimeoutExpired:
-                os.killpg(process.pid, 9)
-                return False
-
-    def outcome(self):
-        if not self.cargo("test", "--no-run", "--test", "binding"):
-            return "refused by the compiler"
-        if not self.cargo("test", "--test", "binding") or not self.cargo("test", "--doc"):
-            return "noticed by a test"
-        return "passed"
-
-    def try_one(self, mutant):
-        file = self.crate / "src" / mutant.file
-        right = file.read_text()
-        file.write_text(mutant.text)
-        try:
-            return self.outcome()
-        finally:
-            file.write_text(right)
-
-
-def tried(mutants, archive, folder, jobs):
-    """Each with its outcome, in any order."""
-    copies = [Copy(folder / str(number), archive) for number in range(jobs)]
-    for copy in copies:
-        if copy.outcome() != "passed":
-            sys.exit("rust-mutants: FAILED, the tests don't pass as things are")
-    free, lock = list(copies), threading.Lock()
-
-    def try_somewhere(mutant):
-        with lock:
-            copy = free.pop()
-        try:
-            return mutant, copy.try_one(mutant)
-        finally:
-            with lock:
-                free.append(copy)
-
-    with concurrent.futures.ThreadPoolExecutor(jobs) as pool:
-        for future in concurrent.futures.as_completed([pool.submit(try_somewhere, mutant) for mutant in mutants]):
-            yield future.result()
-
-
-def main():
-    parser = argparse.ArgumentParser(description=__doc__.split("\n")[0])
-    parser.add_argument("archive", type=pathlib.Path)
-    parser.add_argument("directory", type=pathlib.Path)
-    parser.add_argument("--only", default="")
-    parser.add_argument("--jobs", type=int, default=2)
-    parser.add_argument("--list", action="store_true")
-    words = parser.parse_args()
-    mutants = [mutant for mutant in all_mutants() if words.only in mutant.about]
-    if words.list:
-        print("\n".join(mutant.about for mutant in mutants))
-        return
-    counts, wrong = collections.Counter(), []
-    for mutant, outcome in tried(mutants, words.archive.resolve(), words.directory.resolve(), words.jobs):
-        reasons = [reason for pattern, reason in EQUIVALENT if re.search(pattern, mutant.about)]
-        if outcome == "passed" and reasons:
-            outcome = "equivalent"
-        elif outcome == "passed" or reasons:
-            wrong.append(mutant)
-            print(f"{'NOT NOTICED' if outcome == 'passed' else 'NOT EQUIVALENT, ' + outcome}: {mutant.about}", flush=True)
-        counts[outcome] += 1
-    print(f"rust-mutants: {len(mutants)} tried; " + ", ".join(f"{count} {outcome}" for outcome, count in sorted(counts.items())))
-    sys.exit(1 if wrong else 0)
-
-
-main()
