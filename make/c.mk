@@ -58,7 +58,7 @@ c-examples:
 examples: c-prefix
 	@$(MAKE) --no-print-directory c-examples
 	@if ! command -v cargo >/dev/null 2>&1; then echo 'examples: the plug-in in Rust SKIPPED, there is no cargo on this machine'; \
-	else JUMPERLOFT_LIBRARY='$(abspath $(BUILT_LIBRARY))' RUSTFLAGS='-C link-arg=-Wl,--exclude-libs,ALL' \
+	else JUMPERLOFT_LIBRARY='$(abspath $(BUILT_LIBRARY))' \
 	cargo build --quiet --release --offline --manifest-path examples/plugin_rust/Cargo.toml --target-dir $(C_OUT)/plugin_rust && \
 	$(C_OUT)/host --lend $(C_OUT)/plugin_rust/release/libplugin_rust.so >$(C_OUT)/host.out && diff examples/host.expected $(C_OUT)/host.out && \
 	echo 'examples: the plug-in in Rust makes the same of it'; fi
@@ -88,7 +88,7 @@ bench-table: c-prefix
 	@$(CC) $(C_FLAGS) -D_POSIX_C_SOURCE=199309L tests/c/table_cost.c $(C_LINKED) -o $(C_OUT)/table_cost && $(C_OUT)/table_cost
 
 # wrong headers and wrong bindings, by rule, all of which have to be noticed
-boundary-mutants: header-mutants
+boundary-mutants: header-mutants rust-mutants
 
 # MUTANTS, a regular expression, chooses some
 header-mutants: host-library
