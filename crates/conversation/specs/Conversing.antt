@@ -7,9 +7,9 @@ use Rattle.meaning.specs.Frames.{Answer}
 use Rattle.meaning.specs.Supply.{Supply}
 use Rattle.meaning.specs.Serve.{refused}
 use Rattle.meaning.specs.Program.{Line, frame, other}
-use Rattle.frames.specs.Run.{Run}
+use Rattle.frames.specs.Run.{Run, supplyIn}
 use Rattle.frames.specs.Serve.{serve}
-use Rattle.serving.specs.States.{runIn, supplyIn}
+use Rattle.serving.specs.States.{runIn}
 
 -- each frame served, any other line answered 14
 unfoldable pub talkOn : Run → List Line → Run × List Answer
