@@ -4,8 +4,8 @@ cd "$(dirname "$0")/.." || exit 1
 copy=$(mktemp -d) || exit 1
 trap 'rm -rf "$copy"' EXIT
 mkdir "$copy/crates"
-for crate in meaning shape records lookup; do cp -R "crates/$crate" "$copy/crates/$crate"; done
-grep -E '^(meaning|shape|records|lookup):' crates.txt >"$copy/crates.txt"
+for crate in meaning limits shape records lookup; do cp -R "crates/$crate" "$copy/crates/$crate"; done
+grep -E '^(meaning|limits|shape|records|lookup):' crates.txt >"$copy/crates.txt"
 
 mixed="$copy/crates/lookup/src/lib.rt"
 sed -i 's/^use records::NodeNo;/use records::NodeNo;\nuse records::SlotNo;/; s/NodeNo(v\.root)/SlotNo(v.root)/' "$mixed"

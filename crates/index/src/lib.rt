@@ -6,6 +6,9 @@ ghost use lib.IntN.{pos};
 ghost use Rattle.meaning.specs.Limits.{nodeCells};
 ghost use Rattle.index.specs.Index as spec;
 
+// The index past the last cell.
+const PAST_LAST: i32 = limits::NODE_CELLS as i32;
+
 // Where a level of so many cells begins: from the back below zero where there are none.
 pub fn first(back: bool, used: u8) -> i32
     ensures { λ r. ⌜ r ≡ spec.first back used ⌝ }
@@ -32,8 +35,6 @@ pub fn advance(back: bool, index: i32) -> i32
 }
 
 // Held past the last cell.
-const PAST_LAST: i32 = limits::NODE_CELLS as i32;
-
 fn up(index: i32) -> i32
     ensures { λ r. ⌜ r ≡ spec.advanced false index ⌝ }
 {

@@ -1,4 +1,6 @@
 // Module 2: a store of nodes in slices that the caller lends.
+use limits::BRANCH;
+use limits::LEAF;
 use limits::NODE_CELLS;
 use records::NodeNo;
 ghost use mathlib.Core.Path.{_≡_};
@@ -87,17 +89,7 @@ pub fn make_leaf(
     ensures { λ r. ⌜ Makes (storeOf (now (kinds .entry)) (now (used .entry)) (now (counts .entry)) (now (cells .entry)) (now (order .entry)) free) LEAF len a
         (storeOf (now (kinds .exit)) (now (used .exit)) (now (counts .exit)) (now (cells .exit)) (now (order .entry)) (r .free)) (r .node .0) ⌝ }
 {
-    make(
-        kinds,
-        used,
-        counts,
-        cells,
-        order,
-        free,
-        limits::LEAF,
-        len,
-        a,
-    )
+    make(kinds, used, counts, cells, order, free, LEAF, len, a)
 }
 
 // Takes the node on top of the free order, and makes a branch of it. The counts of its children are the caller's to raise.
@@ -116,17 +108,7 @@ pub fn make_branch(
     ensures { λ r. ⌜ Makes (storeOf (now (kinds .entry)) (now (used .entry)) (now (counts .entry)) (now (cells .entry)) (now (order .entry)) free) BRANCH len a
         (storeOf (now (kinds .exit)) (now (used .exit)) (now (counts .exit)) (now (cells .exit)) (now (order .entry)) (r .free)) (r .node .0) ⌝ }
 {
-    make(
-        kinds,
-        used,
-        counts,
-        cells,
-        order,
-        free,
-        limits::BRANCH,
-        len,
-        a,
-    )
+    make(kinds, used, counts, cells, order, free, BRANCH, len, a)
 }
 
 // A node gets one link more.

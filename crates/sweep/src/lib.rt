@@ -1,4 +1,6 @@
 // Module 2: the release of a link. What nothing reaches any longer goes to the free order.
+use limits::BRANCH;
+use limits::FREE;
 use limits::NODE_CELLS;
 use records::NodeNo;
 ghost use mathlib.Core.Path.{_≡_};
@@ -70,9 +72,9 @@ pub fn scan_one(
     let i = n.0 as usize;
     let kind = kinds[i];
     let len = used[i];
-    kinds[i] = limits::FREE;
+    kinds[i] = FREE;
     used[i] = 0;
-    if kind == limits::BRANCH {
+    if kind == BRANCH {
         let a = cells::cells_of(cells, i);
         return lower_all(counts, order, free, a, len as usize);
     }

@@ -1,4 +1,6 @@
 // Module 4: the calls on a version. Each refuses before it writes anything.
+use limits::MAX_BITS;
+use limits::MAX_LENGTH;
 use records::NodeNo;
 use records::Supply;
 use records::Version;
@@ -56,7 +58,7 @@ pub fn new_with_bits(
     ensures { λ r. ⌜ calledOf (now (kinds .exit)) (now (used .exit)) (now (counts .exit)) (now (cells .exit)) (now (order .entry)) (supply .free) r
         ≡ newCall (storeOf (now (kinds .entry)) (now (used .entry)) (now (counts .entry)) (now (cells .entry)) (now (order .entry)) (supply .free)) bits ⌝ }
 {
-    let legal = (bits >= 1) & (bits <= limits::MAX_BITS);
+    let legal = (bits >= 1) & (bits <= MAX_BITS);
     if !legal {
         return Edited::BadBits;
     }
@@ -182,7 +184,7 @@ pub fn push_back(
     ensures { λ r. ⌜ calledOf (now (kinds .exit)) (now (used .exit)) (now (counts .exit)) (now (cells .exit)) (now (order .entry)) (supply .free) r
         ≡ pushCall (storeOf (now (kinds .entry)) (now (used .entry)) (now (counts .entry)) (now (cells .entry)) (now (order .entry)) (supply .free)) (recordOf v) value ⌝ }
 {
-    if v.length >= limits::MAX_LENGTH {
+    if v.length >= MAX_LENGTH {
         return Edited::Full;
     }
     let length = v.length + 1;
