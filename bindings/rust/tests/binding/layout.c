@@ -34,6 +34,6 @@ int main(void)
     FIELD(state, walk_nodes);
     FIELD(state, walk_indices);
     FIELD(state, sizes);
-    printf("stack 1 %u\n", JUMPERLOFT1_STACK_SIZE);
+    printf("stack 1 %zu\n", (size_t)JUMPERLOFT1_STACK_SIZE);
     return 0;
 }

@@ -1,6 +1,7 @@
 //! The state as C sees it: every field where the header has it, and what is refused of a pointer.
 
 use std::collections::BTreeMap;
+use std::env;
 use std::mem::offset_of;
 use std::process::Command;
 use std::ptr::null;
@@ -34,7 +35,7 @@ type Layout = BTreeMap<String, (usize, usize)>;
 /// What a C compiler makes of the header.
 static IN_C: LazyLock<Layout> = LazyLock::new(|| {
     let program = concat!(env!("CARGO_TARGET_TMPDIR"), "/layout");
-    let compiled = Command::new("cc")
+    let compiled = Command::new(env::var_os("CC").unwrap_or("cc".into()))
         .args(["-I../../include", "tests/binding/layout.c", "-o", program])
         .status();
     assert!(compiled.unwrap().success());
