@@ -85,20 +85,23 @@ def fields(text, code):
 
 def values(text, code):
     """Every two values of like fields in a literal, whole or by one of their words, in each other's place."""
+    slices = ["kinds", "used", "counts", "cells", "order", "versions", "walk_numbers", "walk_nodes", "walk_indices"]
     like = [["kinds", "used"], ["counts", "cells", "order", "walk_numbers", "walk_nodes"]]
-    sizes = ["kinds", "used", "counts", "cells", "order", "versions", "walk_numbers", "walk_nodes", "walk_indices"]
-    for literal in re.finditer(r"(?:= |^\s+)(?:State|Memory|LentState) \{([^{}]*)\}", code, re.M):
+    for literal in re.finditer(r"(?<!struct )(?<!impl )(?<!for )(?<!> )\b(State|Memory|LentState|Sizes) \{\n( +)", code):
+        # its own lines, which begin as the first one does
+        end = code.index(f"\n{literal[2][4:]}}}", literal.end())
         lines = {
-            line[1]: (literal.start(1) + line.start(2), literal.start(1) + line.end(2))
-            for line in re.finditer(r"(\w+): ([^\n]+),", literal[1])
+            line[1]: line.span(2)
+            for line in re.compile(rf"^{literal[2]}(\w+): ([^\n]+),$", re.M).finditer(code, literal.start(2), end)
         }
-        for group in like:
-            for one, other in itertools.combinations([name for name in group if name in lines], 2):
+        groups = [list(lines)] if literal[1] == "Sizes" else [[name for name in group if name in lines] for group in like]
+        for group in groups:
+            for one, other in itertools.combinations(group, 2):
                 yield f"the values of {one} and {other} exchanged", lines[one], exchanged(text, lines[one], lines[other])
-        for one, other in itertools.combinations([name for name in sizes if name in lines], 2):
-            for word in (r"sizes\.\w+", r"lent\.\w+", r"self\.\w+", r"memory\.\w+"):
+        for one, other in itertools.combinations([name for name in slices if name in lines], 2):
+            for word in (r"\blent\.\w+", r"\bsizes\.\w+"):
                 found = [re.search(word, text[slice(*lines[name])]) for name in (one, other)]
-                if all(found) and len(re.findall(r"\w+\.\w+", text[slice(*lines[one])])) > 1:
+                if all(found):
                     places = [
                         (lines[name][0] + match.start(), lines[name][0] + match.end())
                         for name, match in zip((one, other), found)

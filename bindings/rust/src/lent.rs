@@ -4,7 +4,7 @@ use std::fmt;
 use std::marker::PhantomData;
 use std::slice::from_raw_parts_mut;
 
-use crate::{Memory, Refusal, Sizes, StateRef, Version, ffi};
+use crate::{Memory, Refusal, Sizes, StateRef, Version};
 
 /// The C header's `jumperloft1_state`: what a host lends to a plug-in in any language.
 ///
@@ -48,8 +48,17 @@ impl<'a> From<StateRef<'a>> for LentState<'a> {
     fn from(state: StateRef<'a>) -> LentState<'a> {
         let memory = state.into_memory();
         LentState {
-            // there is no state in slices of other sizes
-            sizes: ffi::sizes(memory.kinds.len()),
+            sizes: Sizes {
+                nodes: memory.kinds.len(),
+                used: memory.used.len(),
+                cells: memory.cells.len(),
+                counts: memory.counts.len(),
+                order: memory.order.len(),
+                versions: memory.versions.len(),
+                walk_numbers: memory.walk_numbers.len(),
+                walk_nodes: memory.walk_nodes.len(),
+                walk_indices: memory.walk_indices.len(),
+            },
             kinds: memory.kinds.as_mut_ptr(),
             used: memory.used.as_mut_ptr(),
             counts: memory.counts.as_mut_ptr(),

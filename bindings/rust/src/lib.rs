@@ -28,7 +28,8 @@
 //!
 //! [`State`] owns its memory. [`StateRef`] is a state in [`Memory`] that someone else lends, maybe by a pointer from C
 //! ([`LentState`]). Both give a [`PartyHandle`], which can speak for one party alone and so may be lent to a plug-in, and a
-//! [`Host`], which may also hand versions over and count free nodes.
+//! [`Host`], which may also hand versions over and count free nodes. Who holds the state itself can speak for any party: frames
+//! that a plug-in wrote are run by its handle ([`PartyHandle::run_into`], [`PartyBatch`]), whatever party they name.
 //!
 //! # What a call costs
 //!
