@@ -3,17 +3,19 @@ use mathlib.Core.Path.{_≡_, refl, sym, ap, _∙_}
 use mathlib.Core.Logic.{_≢_}
 use mathlib.Core.List.{List}
 use Prim.Native.Nat.{ℕ, zero, suc, _+_, _-_, _*_, _/_, _%_, _^_, _≤_, _<_}
-use native.Mathlib.Nat.{lt-irrefl, add-comm, suc-mul, div-div-eq-div-mul}
+use native.Mathlib.Nat.{lt-irrefl, add-comm, zero-mul, suc-mul, div-div-eq-div-mul}
 use native.Mathlib.Omega.{arith}
+use lib.Bits.{bitAnd}
 use lib.Pow.{pow-add}
 use lib.ListN.{length, getD}
 use borrow.Author.Tests.{lt-ltb, le-ltb}
-use Rattle.meaning.specs.Limits.{nodeCells}
+use Rattle.meaning.specs.Limits.{nodeCells, maxBits}
 use Rattle.meaning.specs.Lent.{Nodes}
 use Rattle.meaning.specs.Lent.{VersionRecord}
-use Rattle.meaning.specs.Shape.{degree, bucket}
+use Rattle.meaning.specs.Shape.{degree, mask, bucket}
 use Rattle.meaning.specs.Trees.{heightOf, element, contents}
 use Rattle.meaning.proofs.Rows.{rows-length, rows-at}
+use Rattle.shape.proofs.Computed.{bucket-computed}
 use Rattle.records.specs.Records.{recordOf}
 use Rattle.records.specs.declared.Version.{Version}
 use Rattle.lookup.specs.Lookup.{leafIn, elementIn, got}
@@ -21,17 +23,42 @@ use Rattle.lookup.specs.declared.Got.the-variants.{Element, Nothing}
 
 -- ---- the descent
 
+-- the way down to leaf l has come to node n: the shift is that of the node's height
+pub record Descending (cells : List ℕ) (bits index shift n l : ℕ) : Type 0 where
+  pub height : ℕ
+  pub shifts : shift ≡ height * bits
+  pub leads : leafIn cells bits height n index ≡ l
+
+module _ {cells : List ℕ} {bits index shift n l : ℕ} (d : Descending cells bits index shift n l) where
+  -- what a turn takes off the shift is there
+  pub shift-lasts : 0 < shift → bits ≤ shift
+  shift-lasts hs = by (d .height) (d .shifts)
+    where
+      by : (h : ℕ) → shift ≡ h * bits → bits ≤ shift
+      by zero e = absurd (lt-irrefl 0 (omega (arith, zero-mul bits)))
+      by (suc h) e = omega (arith, suc-mul h bits)
+
+  -- a turn: one level lower
+  pub level-passed : (m r : ℕ) → 0 < shift → bits ≤ maxBits → m ≡ mask bits → r ≡ getD cells (nodeCells * n + bitAnd (index / 2 ^ shift) m) 0 → Descending cells bits index (shift - bits) r l
+  unfolding leafIn
+  level-passed m r hs hb e f = by (d .height) (d .shifts) (d .leads)
+    where
+      by : (h : ℕ) → shift ≡ h * bits → leafIn cells bits h n index ≡ l → Descending cells bits index (shift - bits) r l
+      by zero es el = absurd (lt-irrefl 0 (omega (arith, zero-mul bits)))
+      by (suc h) es el =
+          let b : bitAnd (index / 2 ^ shift) m ≡ bucket bits (suc h) index = rw es (bucket-computed bits (suc h) index m hb e .0) in
+          record { height = h; shifts = omega (arith, suc-mul h bits); leads = rw (f, b) el }
+
+  -- with no shift left it is at the leaf
+  pub leaf-reached : 1 ≤ bits → shift ≤ 0 → n ≡ l
+  unfolding leafIn
+  leaf-reached hb hs = by (d .height) (d .shifts) (d .leads)
+    where
+      by : (h : ℕ) → shift ≡ h * bits → leafIn cells bits h n index ≡ l → n ≡ l
+      by zero es el = el
+      by (suc h) es el = absurd (lt-irrefl 0 (omega (arith, suc-mul h bits)))
+
 module _ (cells : List ℕ) (bits index : ℕ) where
-  -- a turn of the way down
-  pub leaf-below : (h n b c : ℕ) → 0 < h → b ≡ bucket bits h index → c ≡ getD cells (nodeCells * n + b) 0 → leafIn cells bits (h - 1) c index ≡ leafIn cells bits h n index
-  unfolding leafIn
-  leaf-below zero n b c l e f = absurd (lt-irrefl zero l)
-  leaf-below (suc h) n b c l e f = let s : suc h - 1 ≡ h = omega arith in rw (s, f, e)
-
-  pub leaf-reached : (h n : ℕ) → h ≤ 0 → n ≡ leafIn cells bits h n index
-  unfolding leafIn
-  leaf-reached h n l = let s : h ≡ 0 = omega arith in rw s
-
   element-there : (h n : ℕ) → getD cells (nodeCells * leafIn cells bits h n index + bucket bits 0 index) 0 ≡ elementIn cells bits h n index
   unfolding leafIn element
   element-there zero n = refl

@@ -3,22 +3,31 @@ use records::NodeNo;
 use records::Version;
 use shape::vector_utils;
 ghost use mathlib.Core.Path.{_≡_};
-ghost use Prim.Native.Nat.{_+_, _-_, _*_, _<_};
+ghost use Prim.Native.Nat.{_+_, _-_, _*_, _^_, _<_};
 ghost use lib.ListN.{getD};
 ghost use Rattle.meaning.specs.Limits.{nodeCells, wordWidth};
 ghost use Rattle.meaning.specs.WellFormed.{LegalBits};
 ghost use Rattle.shape.specs.Legal.{Legal};
 ghost use Rattle.lookup.specs.Lookup.{leafIn, elementIn, got};
 
-// A cell of a node, or 0 where there is none: no caller has to show that a node is there.
+// A cell of a node, or 0 where there is none. Both numbers are as wide as places: the way down goes from one to the next and widens none.
+fn wide_cell_at(cells: &[u32], node: usize, i: u32) -> usize
+    requires { ⌜ node < 2 ^ wordWidth ⌝ }
+    ensures { λ r. ⌜ r ≡ getD (now (cells .entry)) (nodeCells * node + i) 0 ⌝ }
+    ensures word { λ r. ⌜ r < 2 ^ wordWidth ⌝ }
+{
+    let at = limits::NODE_CELLS * node + (i as usize);
+    if at < cells.len() {
+        return cells[at] as usize;
+    }
+    0
+}
+
+// No caller has to show that a node is there.
 pub fn cell_at(cells: &[u32], node: NodeNo, i: u32) -> u32
     ensures { λ r. ⌜ r ≡ getD (now (cells .entry)) (nodeCells * node .0 + i) 0 ⌝ }
 {
-    let at = limits::NODE_CELLS * (node.0 as usize) + (i as usize);
-    if at < cells.len() {
-        return cells[at];
-    }
-    0
+    wide_cell_at(cells, node.0 as usize, i) as u32
 }
 
 // The leaf of an index below a node of that height.
@@ -27,14 +36,14 @@ pub fn leaf(cells: &[u32], bits: u32, height: u32, node: NodeNo, index: u32) -> 
     requires shift { ⌜ height * bits < wordWidth ⌝ }
     ensures { λ r. ⌜ r .0 ≡ leafIn (now (cells .entry)) bits height (node .0) index ⌝ }
 {
-    let mut n = node.0;
-    let mut h = height;
-    while h > 0 {
-        let b = vector_utils::bucket(bits, index, h);
-        n = cell_at(cells, NodeNo(n), b);
-        h -= 1;
+    let mask = vector_utils::mask(bits);
+    let mut n = node.0 as usize;
+    let mut shift = height * bits;
+    while shift > 0 {
+        n = wide_cell_at(cells, n, (index >> shift) & mask);
+        shift -= bits;
     }
-    NodeNo(n)
+    NodeNo(n as u32)
 }
 
 // The element at an index below a node of that height.

@@ -1,45 +1,57 @@
-use mathlib.Core.Path.{_≡_, refl, _∙_}
-use Prim.Native.Nat.{_*_, _<_}
+-- `lookup::leaf` meets its contract: at each turn the shift is that of the height of the node that it has come to.
+use mathlib.Core.Path.{refl}
+use Prim.Native.Nat.{_^_, _<_}
 use native.Mathlib.Omega.{arith}
+use borrow.Author.Needs.{needs}
 use Rattle.meaning.specs.Limits.{wordWidth}
 use Rattle.lookup.specs.Lookup.{leafIn}
-use Rattle.lookup.proofs.Found.{leaf-below, leaf-reached, shift-below}
+use Rattle.lookup.proofs.Found.{Descending, shift-lasts, level-passed, leaf-reached}
 use Rattle.lookup.proofs.leaf.Statement.{statement}
 use Rattle.lookup.proofs.leaf.Tie as tie
 
 abbrev Inv-loop : tie.InvT-loop
-Inv-loop cells bits height index n₀ h₀ n h = (h * bits < wordWidth) × (leafIn cells bits h n index ≡ leafIn cells bits h₀ n₀ index)
+Inv-loop cells bits height index mask n₀ shift₀ n shift = (shift < wordWidth) × (n < 2 ^ wordWidth) × Descending cells bits index shift n (leafIn cells bits height n₀ index)
 
 abbrev μ-loop : tie.MeasureT-loop
-μ-loop cells bits height index n₀ h₀ n h = h
+μ-loop cells bits height index mask n₀ shift₀ n shift = shift
 
--- src/lib.rt:32:5
+mask-requires : tie.Need-mask-requires Inv-loop μ-loop
+mask-requires c κs = search needs
+
+cast-n : tie.Need-cast-n Inv-loop μ-loop
+cast-n c = search needs
+
+mul-shift : tie.Need-mul-shift Inv-loop μ-loop
+mul-shift c = search needs
+
 loop-holds : tie.Need-loop-holds Inv-loop μ-loop
-loop-holds c = (c .before .pre .1, refl)
+loop-holds c =
+    let start = c .before .before .before in
+    (start .pre .1, omega arith, record { height = start .args .height; shifts = refl; leads = refl })
 
--- src/lib.rt:33:13
-bucket-requires : tie.Need-bucket-requires Inv-loop μ-loop
-bucket-requires c κs = (c .before .before .before .pre .0, c .before .loop .inv .0)
+shr-wide-cell-at : tie.Need-shr-wide-cell-at Inv-loop μ-loop
+shr-wide-cell-at c = omega (arith, c .before .loop .inv .0)
 
--- src/lib.rt:34:9
-cell-at-requires : tie.Need-cell-at-requires Inv-loop μ-loop
-cell-at-requires c κs = tt
+wide-cell-at-requires : tie.Need-wide-cell-at-requires Inv-loop μ-loop
+wide-cell-at-requires c κs = c .before .loop .inv .1
 
--- src/lib.rt:35:9
-sub-h : tie.Need-sub-h Inv-loop μ-loop
-sub-h c = omega (arith, c .before .before .loop-test .taken)
+sub-shift : tie.Need-sub-shift Inv-loop μ-loop
+sub-shift c = omega (arith, c .before .loop-test .taken, shift-lasts (c .before .before .loop .inv .2) (omega (arith, c .before .loop-test .taken)))
 
--- src/lib.rt:32:5
 loop-less : tie.Need-loop-less Inv-loop μ-loop
-loop-less c = omega (arith, c .before .before .loop-test .taken)
+loop-less c = omega (arith, c .before .loop-test .taken, c .before .before .before .before .before .before .pre .0 .least)
 
--- src/lib.rt:32:5
 loop-again : tie.Need-loop-again Inv-loop μ-loop
-loop-again c = (shift-below (c .before .before .before .before .before .args .bits) (c .before .before .before .loop .h) wordWidth (c .before .before .before .loop .inv .0), leaf-below (c .before .before .before .before .before .args .cells .now) (c .before .before .before .before .before .args .bits) (c .before .before .before .before .before .args .index) _ _ _ _ (c .before .before .loop-test .taken) (c .before .bucket .ensures .0) (c .cell-at .ensures) ∙ c .before .before .before .loop .inv .1)
+loop-again c =
+    let start = c .before .before .before .before .before .before in
+    let down = level-passed (c .before .before .loop .inv .2) _ _ (omega (arith, c .before .loop-test .taken)) (start .pre .0 .most) (c .before .before .before .before .mask .ensures) (c .wide-cell-at .ensures .0) in
+    (omega (arith, c .before .before .loop .inv .0), c .wide-cell-at .ensures .1, down)
 
--- src/lib.rt:25:1
+cast-t12 : tie.Need-cast-t12 Inv-loop μ-loop
+cast-t12 c = record { fits = omega (arith, c .before .loop .inv .1) }
+
 returns : tie.Need-returns Inv-loop μ-loop
-returns c = leaf-reached _ _ _ _ _ (omega (arith, c .loop-test .left)) ∙ c .before .loop .inv .1
+returns c = leaf-reached (c .before .loop .inv .2) (c .before .before .before .before .before .pre .0 .least) (c .loop-test .left)
 
 pub leaf-spec : {M : Type 1} → statement M
 leaf-spec =
@@ -47,10 +59,14 @@ leaf-spec =
     (tie.spec
     Inv-loop
     μ-loop
+    mask-requires
+    cast-n
+    mul-shift
     loop-holds
-    bucket-requires
-    cell-at-requires
-    sub-h
+    shr-wide-cell-at
+    wide-cell-at-requires
+    sub-shift
     loop-less
     loop-again
+    cast-t12
     returns)
