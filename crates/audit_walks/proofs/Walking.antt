@@ -3,19 +3,22 @@ use mathlib.Core.Path.{_≡_, refl, sym, ap, _∙_}
 use mathlib.Core.Logic.{inl, inr}
 use mathlib.Core.Bool.{Bool, true, false, _&&_, _||_}
 use mathlib.Core.List.{List}
-use Prim.Native.Nat.{ℕ, zero, suc, _+_, _-_, _*_, _≤_, _<_}
-use native.Mathlib.Nat.{lt-irrefl, mul-le-mul-right}
+use Prim.Native.Nat.{ℕ, zero, suc, _+_, _-_, _*_, _/_, _^_, _≤_, _<_}
+use native.Mathlib.Nat.{lt-irrefl, suc-mul, mul-le-mul-right}
 use native.Mathlib.Numerals.{add-one, sub-one}
 use native.Mathlib.Omega.{arith}
+use lib.Bits.{bitAnd}
 use lib.Dec.{eqb, leb}
 use lib.IntN.{ℤ, pos}
 use lib.ListN.{getD}
 use borrow.Author.Tests.{le-leb, lt-leb, eqb-false}
 use Rattle.meaning.specs.Limits.{nodeCells, lengthBits, walkLevels, wordWidth}
 use Rattle.meaning.specs.Lent.{VersionRecord, walkRecord}
-use Rattle.meaning.specs.Shape.{bucket}
+use Rattle.meaning.specs.Shape.{mask, bucket}
 use Rattle.meaning.specs.Trees.{heightOf}
+use Rattle.meaning.specs.WellFormed.{LegalBits}
 use Rattle.shape.specs.Legal.{Legal}
+use Rattle.shape.proofs.Computed.{bucket-computed}
 use Rattle.audit_model.specs.Made.{walksOf, walkNumber, walkVersion}
 use Rattle.audit_model.specs.Records.{isIndex, levelIs, wayOk, blankFrom, stackOk, walkAgrees}
 use Rattle.audit_model.proofs.Steps.{Held, from-ends, from-fails, cond-yes, cond-no, and-yes, and-no}
@@ -64,6 +67,16 @@ module _ (ns : List ℕ) (is : List ℤ) (st : ℕ) where
         let w′ : W ≡ wayOk cs ns is st b 0 n index = rw z at w in
         let q′ : o ≡ levelIs ns is st 0 n (bucket b 0 index) = rw p at q in
         q′ ∙ sym w′
+
+-- ---- the shift of a height
+
+pub shift-takes : (b k s i m : ℕ) → LegalBits b → m ≡ mask b → s ≡ k * b → (bitAnd (i / 2 ^ s) m ≡ bucket b k i) × (bitAnd (i / 2 ^ s) m < nodeCells)
+shift-takes b k s i m legal e f = rw f (bucket-computed b k i m (legal .most) e)
+
+-- it falls by the bits with each level
+pub shift-falls : (b k s : ℕ) → 0 < k → s ≡ k * b → (b ≤ s) × (s - b ≡ (k - 1) * b)
+shift-falls b zero s l e = absurd (lt-irrefl zero l)
+shift-falls b (suc k) s l e = let one : suc k - 1 ≡ k = omega arith in (omega (arith, suc-mul k b), rw one (omega (arith, suc-mul k b)))
 
 pub lower-shift : (h b k : ℕ) → h * b < lengthBits → k ≤ h → k * b < wordWidth
 lower-shift h b k l u = let m : k * b ≤ h * b = mul-le-mul-right b u in omega arith

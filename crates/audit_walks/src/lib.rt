@@ -39,19 +39,23 @@ pub fn way_ok(
     requires { ⌜ (stack < 2 * walkCount) × LegalBits bits × (height * bits < lengthBits) ⌝ }
     ensures { λ r. ⌜ r ≡ wayOk (now (cells .entry)) (now (nodes .entry)) (now (indices .entry)) stack bits height root index ⌝ }
 {
+    let leaf = WALK_LEVELS * stack;
+    let mask = shape::vector_utils::mask(bits);
     let mut k = height;
+    let mut shift = height * bits;
     let mut n = root;
     while k > 0 {
-        let b = shape::vector_utils::bucket(bits, index, k);
-        let right = audit_reads::level_is(nodes, indices, WALK_LEVELS * stack + k as usize, n, b);
+        let b = (index >> shift) & mask;
+        let right = audit_reads::level_is(nodes, indices, leaf + k as usize, n, b);
         if !right {
             return false;
         }
         n = audit_reads::cell_at(cells, n, b);
         k -= 1;
+        shift -= bits;
     }
     let b = shape::vector_utils::bucket(bits, index, 0);
-    audit_reads::level_is(nodes, indices, WALK_LEVELS * stack, n, b)
+    audit_reads::level_is(nodes, indices, leaf, n, b)
 }
 
 // Whether a stack is right: none before anything is taken or when all is, and else the way to what comes next.
