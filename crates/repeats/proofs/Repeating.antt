@@ -3,17 +3,20 @@ use mathlib.Core.Path.{_≡_, refl, sym, ap, _∙_}
 use mathlib.Core.Bool.{Bool, true, false, not, false≢true}
 use mathlib.Core.List.{List, [], _∷_}
 use mathlib.Core.Logic.{_≢_}
-use Prim.Native.Nat.{ℕ, zero, suc, _+_, _-_, _*_, _≤_, _<_}
-use native.Mathlib.Nat.{lt-irrefl}
+use Prim.Native.Nat.{ℕ, zero, suc, _+_, _-_, _*_, _/_, _^_, _≤_, _<_}
+use native.Mathlib.Nat.{lt-irrefl, div-eq-of-lt}
 use native.Mathlib.Decide.{decLt}
 use native.Mathlib.Omega.{arith}
+use lib.Bits.{bitXor, and-le-l, and-le-r, xor-add-and, xor-shr}
 use lib.Dec.{eqb}
 use lib.ListN.{length, getD, set}
+use lib.Pow.{pow-pos}
 use lib.Seq.{getD-set-other}
 use borrow.Author.Tests.{eqb-false}
 use Rattle.meaning.specs.Limits.{walkNumbers}
 use Rattle.meaning.specs.Counting.{bit}
 use Rattle.meaning.specs.Lent.{WalkSlices}
+use Rattle.meaning.specs.Shape.{degree, mask}
 use Rattle.meaning.specs.Trees.{heightOf}
 use Rattle.meaning.specs.Frames.{Frame, Answer, encode}
 use Rattle.records.specs.Records.{recordOf}
@@ -56,6 +59,16 @@ module _ (kind : Frame → Bool) (requests : List ℕ) (count : ℕ) where
   row-over j l m = absurd (lt-irrefl 0 (omega arith))
 
 -- ---- gets
+
+-- numbers that differ in their last b bits alone have the others in common
+pub block-same : (b i j m : ℕ) → m ≡ mask b → bitXor i j ≤ m → j / 2 ^ b ≡ i / 2 ^ b
+unfolding mask degree
+block-same b i j m e l =
+    let p = i / 2 ^ b in
+    let q = j / 2 ^ b in
+    let short : bitXor i j < 2 ^ b = omega (arith, pow-pos b) in
+    let none : bitXor p q ≡ 0 = sym (xor-shr i j b) ∙ div-eq-of-lt short in
+    omega (arith, xor-add-and p q, and-le-l p q, and-le-r p q)
 
 module _ (cells : List ℕ) (v : Version) (requests room : List ℕ) (k : ℕ) where
   pub gets-begin : room ≡ afterGets cells v requests room k (k - k)

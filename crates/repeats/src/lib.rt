@@ -33,7 +33,7 @@ fn is_get(f: Frame, party: u8, slot: u8, length: u32) -> bool
     (f.party == party) & (f.operation == operations::GET) & (f.slot == slot) & (f.index < length)
 }
 
-// Indices of one block have one leaf.
+// Indices that differ in nothing but their last bits have one leaf.
 fn leaf_again(
     cells: &[u32],
     bits: u32,
@@ -48,7 +48,7 @@ fn leaf_again(
     requires leaf { ⌜ leaf .0 ≡ leafIn (now cells) bits height (root .0) before ⌝ }
     ensures { λ r. ⌜ r .0 ≡ leafIn (now (cells .entry)) bits height (root .0) index ⌝ }
 {
-    if index >> bits == before >> bits {
+    if index ^ before <= vector_utils::mask(bits) {
         return leaf;
     }
     lookup::leaf(cells, bits, height, root, index)
