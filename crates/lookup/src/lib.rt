@@ -10,7 +10,14 @@ ghost use Rattle.meaning.specs.WellFormed.{LegalBits};
 ghost use Rattle.shape.specs.Legal.{Legal};
 ghost use Rattle.lookup.specs.Lookup.{leafIn, elementIn, got};
 
-// A cell of a node, or 0 where there is none. Both numbers are as wide as places: the way down goes from one to the next and widens none.
+// A cell of a node, or 0 where there is none: no caller has to show that a node is there.
+pub fn cell_at(cells: &[u32], node: NodeNo, i: u32) -> u32
+    ensures { λ r. ⌜ r ≡ getD (now (cells .entry)) (nodeCells * node .0 + i) 0 ⌝ }
+{
+    wide_cell_at(cells, node.0 as usize, i) as u32
+}
+
+// The same in the width of places, in which the way down goes from node to node: to widen each would cost a turn three instructions.
 fn wide_cell_at(cells: &[u32], node: usize, i: u32) -> usize
     requires { ⌜ node < 2 ^ wordWidth ⌝ }
     ensures { λ r. ⌜ r ≡ getD (now (cells .entry)) (nodeCells * node + i) 0 ⌝ }
@@ -21,13 +28,6 @@ fn wide_cell_at(cells: &[u32], node: usize, i: u32) -> usize
         return cells[at] as usize;
     }
     0
-}
-
-// No caller has to show that a node is there.
-pub fn cell_at(cells: &[u32], node: NodeNo, i: u32) -> u32
-    ensures { λ r. ⌜ r ≡ getD (now (cells .entry)) (nodeCells * node .0 + i) 0 ⌝ }
-{
-    wide_cell_at(cells, node.0 as usize, i) as u32
 }
 
 // The leaf of an index below a node of that height.
