@@ -37,8 +37,8 @@ EQUIVALENT = [
         "two that have to be equal are refused, or equal, either way",
     ),
     (
-        r"sizes\.(nodes|used|counts|walk_nodes) and sizes\.(used|counts|order|walk_indices) exchanged"
-        r"|the values of (nodes|used|counts|walk_nodes) and (used|counts|order|walk_indices) exchanged.*len\(\)",
+        r"sizes\.(nodes|used|counts) and sizes\.(used|counts|order) exchanged|sizes\.walk_nodes and sizes\.walk_indices exchanged"
+        r"|the values of ((nodes|used|counts) and (used|counts|order)|walk_nodes and walk_indices) exchanged.*len\(\)",
         "the sizes of a state, in which these are one number",
     ),
     (r"sizes: Sizes and borrowed: .* exchanged", "the marker has no bytes"),
