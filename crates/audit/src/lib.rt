@@ -4,7 +4,7 @@ ghost use Rattle.meaning.specs.Limits.{max_nodes};
 ghost use Rattle.audit_reads.specs.Slices.{lent_from};
 ghost use Rattle.audit.specs.Audited.{Judged, Cleared, Small};
 
-#[derive(Drop)]
+#[derive(Clone, Copy)]
 pub struct Audited {
     pub ok: bool,
     // The free nodes of a well-formed state, 0 for any other.

@@ -1,4 +1,6 @@
 // The cells of nodes, 32 to a node, in one flat slice.
+#![tactic(auto)]
+
 ghost use Rattle.std.specs.Prelude.{◌≡◌, ◌+◌, ◌*◌, ◌≤◌, length};
 ghost use Rattle.meaning.specs.Limits.{node_cells};
 ghost use Rattle.cells.specs.Cells.{cells_of, put_cells};

@@ -1,4 +1,6 @@
 // Module 6: two versions element by element, then by length, whatever their bits.
+#![tactic(auto)]
+
 mod differences;
 
 ghost use Rattle.std.specs.Prelude.{◌≡◌, ◌*◌, ◌≤◌, ◌<◌, min};
@@ -11,7 +13,7 @@ ghost use Rattle.compare.specs.Differences.{AlikeUntil};
 use differences::first_difference;
 use records::{NodeNo, Version};
 
-#[derive(Drop)]
+#[derive(Clone, Copy)]
 pub enum Ordering {
     Less,
     Equal,

@@ -14,7 +14,7 @@ use version_table::{store_table, table_of};
 
 // What a call reports: the number given back, and how many frames ran.
 #[repr(C)]
-#[derive(Drop)]
+#[derive(Clone, Copy)]
 pub struct Report {
     pub number: u32,
     pub frames: usize,

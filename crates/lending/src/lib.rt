@@ -7,7 +7,7 @@ use limits::{ALL_NUMBERS, FRAME_SIZE, MAX_NODES, NODE_CELLS, PLACES, VERSIONS};
 
 // How many elements each slice has.
 #[repr(C)]
-#[derive(Drop)]
+#[derive(Clone, Copy)]
 pub struct Sizes {
     pub nodes: usize,
     pub used: usize,

@@ -114,7 +114,7 @@ fn is_frame_at(piece: &[u8], at: usize) -> bool
 }
 
 // How far a piece is read: to which byte, how much of a line is kept, how many lines and frames ended.
-#[derive(Drop)]
+#[derive(Clone, Copy)]
 struct Reading {
     at: usize,
     len: usize,
@@ -192,7 +192,7 @@ fn read_on(
 }
 
 // What is kept of the line begun after a piece, how many lines ended in it, and how many of those are frames.
-#[derive(Drop)]
+#[derive(Clone, Copy)]
 pub struct ReadLines {
     pub len: usize,
     pub lines: usize,

@@ -1,4 +1,6 @@
 // Modules 3 and 4, what only reads: the element at an index, first, last, length.
+#![tactic(auto)]
+
 ghost use Rattle.std.specs.Prelude.{◌≡◌, ◌+◌, ◌-◌, ◌*◌, ◌^◌, ◌<◌, get_or};
 ghost use Rattle.meaning.specs.Limits.{node_cells, word_width};
 ghost use Rattle.meaning.specs.WellFormed.{LegalBits};
@@ -61,7 +63,7 @@ pub fn len(v: Version) -> u32
     v.length
 }
 
-#[derive(Drop)]
+#[derive(Clone, Copy)]
 pub enum Got {
     Element(u32),
     Nothing,

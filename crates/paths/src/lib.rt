@@ -12,7 +12,7 @@ use shape::vector_utils;
 use store::Made;
 
 // A node that is copied: its cells, and how many it uses.
-#[derive(Drop)]
+#[derive(Clone, Copy)]
 pub struct Source {
     pub cells: [u32; NODE_CELLS],
     pub used: u8,

@@ -1,26 +1,28 @@
 // Numbers and records that functions hand on by value.
+#![tactic(auto)]
+
 ghost use Rattle.std.specs.Prelude.{◌≡◌};
 ghost use Rattle.meaning.specs.Limits.{default_bits};
 ghost use Rattle.meaning.specs.Lent.{empty_record};
 ghost use Rattle.records.specs.Records.{record_of, live_version, lengthened};
 
 // The number of a node.
-#[derive(Drop)]
+#[derive(Clone, Copy)]
 pub struct NodeNo(pub u32);
 
 // The number of a version slot among all 64: another kind of number than a node's.
-#[derive(Drop)]
+#[derive(Clone, Copy)]
 pub struct SlotNo(pub u32);
 
 // What a call may take nodes from.
-#[derive(Drop)]
+#[derive(Clone, Copy)]
 pub struct Supply {
     pub free: usize,
 }
 
 // A version record. Any numbers may stand in a lent one; the audit says which are legal.
 #[repr(C)]
-#[derive(Drop)]
+#[derive(Clone, Copy)]
 pub struct Version {
     pub live: u32,
     pub root: u32,

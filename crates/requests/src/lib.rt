@@ -7,7 +7,7 @@ ghost use Rattle.requests.specs.Requests.{frame_of, answer_of, frame_place, answ
 use limits::{ANSWER_SIZE, FRAME_SIZE};
 
 // A request of one call. What its fields name is for the operation to say.
-#[derive(Drop)]
+#[derive(Clone, Copy)]
 pub struct Frame {
     pub party: u8,
     pub operation: u8,
@@ -17,7 +17,7 @@ pub struct Frame {
     pub value: u32,
 }
 
-#[derive(Drop)]
+#[derive(Clone, Copy)]
 pub struct Answer {
     pub number: u8,
     pub fresh: u8,

@@ -16,7 +16,7 @@ use requests::{Answer, Frame};
 use served::Served;
 
 // Where the records of a frame's slots stand, and the one that it may change.
-#[derive(Drop)]
+#[derive(Clone, Copy)]
 pub struct Places {
     pub source: usize,
     pub target: usize,

@@ -9,7 +9,7 @@ use records::Version;
 use vector::{Edit, Edited};
 
 // What a frame is answered, how many nodes are free then, and what stands in the one version record that it may change.
-#[derive(Drop)]
+#[derive(Clone, Copy)]
 pub struct Served {
     pub number: u8,
     pub fresh: u8,

@@ -1,4 +1,6 @@
 // Module 2: a store of nodes in slices that the caller lends.
+#![tactic(auto)]
+
 ghost use Rattle.std.specs.Prelude.{◌≡◌, ◌+◌, ◌-◌, ◌≤◌, ◌<◌, length, take, get_or};
 ghost use Rattle.std.proofs.Math.Seq.{slice};
 ghost use Rattle.meaning.specs.Limits.{node_cells, LEAF, BRANCH};
@@ -40,7 +42,7 @@ pub fn write_node(
 }
 
 // A node just made, and how many are free after it.
-#[derive(Drop)]
+#[derive(Clone, Copy)]
 pub struct Made {
     pub node: NodeNo,
     pub free: usize,

@@ -15,14 +15,14 @@ use records::{NodeNo, Supply, Version};
 use store::Made;
 
 // A version, how many nodes were copied for it, and how many are left free.
-#[derive(Drop)]
+#[derive(Clone, Copy)]
 pub struct Edit {
     pub version: Version,
     pub copied: u32,
     pub free: usize,
 }
 
-#[derive(Drop)]
+#[derive(Clone, Copy)]
 pub enum Edited {
     Done(Edit),
     BadBits,

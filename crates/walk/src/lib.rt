@@ -138,7 +138,7 @@ pub fn take(
 // ---- so many at once
 
 // The cell of a leaf that comes next, and how many elements from there are cells of that leaf.
-#[derive(Drop)]
+#[derive(Clone, Copy)]
 pub struct Stretch {
     pub node: u32,
     pub place: u32,
