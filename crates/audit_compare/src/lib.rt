@@ -1,4 +1,6 @@
 // The comparison of the lengths with one N, and of each node with its code and its tally.
+#![tactic(auto)]
+
 ghost use Rattle.std.specs.Prelude.{◌≡◌, ℕ, ◌+◌, ◌*◌, ◌≤◌, ◌<◌, length, get_or};
 ghost use Rattle.meaning.specs.Limits.{max_nodes, node_cells};
 ghost use Rattle.audit_model.specs.Made.{nodes_of};

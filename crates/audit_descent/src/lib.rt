@@ -1,4 +1,6 @@
 // The descent into a version.
+#![tactic(auto)]
+
 ghost use Rattle.std.specs.Prelude.{◌≡◌, true, false, ◌+◌, ◌*◌, ◌-◌, ◌^◌, ◌≤◌, ◌<◌, min};
 ghost use Rattle.meaning.specs.Limits.{max_length, length_bits, node_cells};
 ghost use Rattle.meaning.specs.Shape.{degree};

@@ -1,4 +1,6 @@
 // What the audit computes stands in specs/, that it decides well-formedness in proofs/. What runs is how a code is packed.
+#![tactic(auto)]
+
 ghost use Rattle.std.specs.Prelude.{◌≡◌, ◌<◌, ◌≤◌};
 ghost use Rattle.meaning.specs.Limits.{max_bits, max_length, walk_levels};
 ghost use Rattle.audit_model.specs.Descent.{code};

@@ -1,4 +1,6 @@
 // Reads and writes of lent slices at any place: what lies past the end reads 0, and a write there does nothing.
+#![tactic(auto)]
+
 ghost use Rattle.std.specs.Prelude.{◌≡◌, ◌&&◌, ◌+◌, ◌*◌, ◌<◌, ◌≤◌, eqb, pos, get_or, set};
 ghost use Rattle.meaning.specs.Limits.{node_cells, walk_count};
 ghost use Rattle.records.specs.Records.{record_of};

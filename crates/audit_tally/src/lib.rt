@@ -1,4 +1,6 @@
 // The tallies of the audit: places in the free order and links, into one slice.
+#![tactic(auto)]
+
 ghost use Rattle.std.specs.Prelude.{◌≡◌, true, false, ℕ, ◌+◌, ◌*◌, ◌≤◌, ◌<◌, length, get_or};
 ghost use Rattle.meaning.specs.Limits.{max_nodes, node_cells, version_count, walk_count};
 ghost use Rattle.meaning.specs.Lent.{is_free, free_nodes};

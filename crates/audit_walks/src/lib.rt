@@ -1,4 +1,6 @@
 // Whether the levels of a walk are what its numbers say.
+#![tactic(auto)]
+
 ghost use Rattle.std.specs.Prelude.{◌≡◌, ◌+◌, ◌*◌, ◌-◌, ◌<◌};
 ghost use Rattle.meaning.specs.Limits.{walk_count, length_bits};
 ghost use Rattle.meaning.specs.WellFormed.{LegalBits};

@@ -1,4 +1,6 @@
 // Hexadecimal in capitals: a frame from its digits, and an answer as a line.
+#![tactic(auto)]
+
 ghost use Rattle.std.specs.Prelude.{◌≡◌, true, ◌+◌, ◌≤◌, ◌<◌, length};
 ghost use Rattle.std.proofs.Math.Seq.{paste};
 ghost use Rattle.meaning.specs.Limits.{frame_size, answer_size};

@@ -1,4 +1,6 @@
 // The signed index of a walk's level: all that is done with a signed number.
+#![tactic(auto)]
+
 ghost use Rattle.std.specs.Prelude.{◌≡◌, Bool, true, false, ◌<◌, pos};
 ghost use Rattle.meaning.specs.Limits.{node_cells};
 ghost use Rattle.index.specs.Index as spec;

@@ -1,4 +1,6 @@
 // How much a host lends, and the number of a batch that lends too much or too little.
+#![tactic(auto)]
+
 ghost use Rattle.std.specs.Prelude.{◌≡◌};
 ghost use Rattle.lending.specs.Lending.{no_sizes, RightSizes, refusal_of};
 

@@ -1,4 +1,6 @@
 // The sizes and limits of document 01, each declared once and proved to be what `meaning` calls by its name.
+#![tactic(auto)]
+
 pub mod numbers;
 pub mod operations;
 pub mod words;

@@ -1,4 +1,6 @@
 // The numbers that a host and its plug-ins go by, a line each: the name in the header for C without its prefix, and the number.
+#![tactic(auto)]
+
 use limits::{numbers, operations};
 
 fn show(name: &[u8], number: u64) {

@@ -1,4 +1,6 @@
 // Module 3: path copying. The nodes from a root to one leaf are made anew, bottom up, and everything beside them is shared.
+#![tactic(auto)]
+
 ghost use Rattle.std.specs.Prelude.{◌≡◌, true, List, ℕ, suc, ◌+◌, ◌<◌, max};
 ghost use Rattle.meaning.specs.Limits.{node_cells};
 ghost use Rattle.store.specs.Store.{nodes_of, store_of};

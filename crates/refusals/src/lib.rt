@@ -1,4 +1,6 @@
 // The frame checks 1 to 6, from one table of what an operation uses, and whose slots and walks a frame names.
+#![tactic(auto)]
+
 ghost use Rattle.std.specs.Prelude.{◌≡◌, cond};
 ghost use Rattle.meaning.specs.Limits.{last_slot, last_walk};
 ghost use Rattle.meaning.specs.Operations as meaning;

@@ -1,4 +1,6 @@
 // A frame and its answer, by value and as bytes.
+#![tactic(auto)]
+
 ghost use Rattle.std.specs.Prelude.{◌≡◌, ◌+◌, ◌^◌, ◌≤◌, ◌<◌, length, take, drop};
 ghost use Rattle.meaning.specs.Limits.{frame_size, answer_size};
 ghost use Rattle.meaning.specs.Frames.{from_bytes, encode};

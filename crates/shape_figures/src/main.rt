@@ -1,4 +1,6 @@
 // Figures of document 01 that no theorem has, a line each, the arguments first.
+#![tactic(auto)]
+
 ghost use Rattle.std.specs.Prelude.{◌*◌, ◌<◌};
 ghost use Rattle.meaning.specs.Limits.{word_width};
 ghost use Rattle.meaning.specs.WellFormed.{LegalBits};

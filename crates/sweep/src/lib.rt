@@ -1,4 +1,6 @@
 // Module 2: the release of a link. What nothing reaches any longer goes to the free order.
+#![tactic(auto)]
+
 ghost use Rattle.std.specs.Prelude.{◌≡◌, ◌+◌, ◌≤◌, ◌<◌, length, take};
 ghost use Rattle.meaning.specs.Limits.{node_cells};
 ghost use Rattle.meaning.specs.Lent.{Nodes};

@@ -1,4 +1,6 @@
 // The version table as a host lends it, a slice of records: one record read or replaced, and all of them copied out and back.
+#![tactic(auto)]
+
 ghost use Rattle.std.specs.Prelude.{◌≡◌, true, ◌<◌, length, set, get_or};
 ghost use Rattle.version_table.specs.Tables.{blank, blanks, copied, table_of, stored};
 

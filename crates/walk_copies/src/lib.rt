@@ -1,4 +1,6 @@
 // The walk records copied out of the slices that a host lends into arrays, and back.
+#![tactic(auto)]
+
 ghost use Rattle.std.specs.Prelude.{◌≡◌, length};
 ghost use Rattle.meaning.specs.Limits.{all_numbers, places};
 

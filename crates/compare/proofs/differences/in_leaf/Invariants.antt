@@ -1,0 +1,13 @@
+use Prim.Native.Nat.{◌-◌, ◌≤◌}
+use native.Mathlib.Nat.{lt_irrefl}
+use native.Mathlib.Omega.{arith}
+use borrow.Author.Rules.{rules}
+use Rattle.compare.specs.Differences.{SameIn}
+use Rattle.compare.proofs.Ranges.{none-differs, leaf-differs, leaf-goes-on}
+use Rattle.compare.proofs.differences.in_leaf.Given as goal
+
+abbrev pub invariant-loop-i : goal.invariant-loop-i
+invariant-loop-i l = (l.from ≤ l.i) × (l.i ≤ l.to) × SameIn l.cells l.bits 0 l.n.0 l.m.0 l.from l.i
+
+abbrev pub decreases-loop-i : goal.decreases-loop-i
+decreases-loop-i l = l.to - l.i

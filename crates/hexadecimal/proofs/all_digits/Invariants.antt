@@ -1,0 +1,14 @@
+use mathlib.Core.Path.{◌≡◌}
+use Prim.Native.Nat.{◌≤◌, ◌-◌}
+use native.Mathlib.Omega.{arith}
+use lib.ListN.{length, take}
+use borrow.Author.Rules.{rules}
+use Rattle.meaning.specs.Program.{all_digits}
+use Rattle.hexadecimal.proofs.Digits.{all_start, all-next, all-ends}
+use Rattle.hexadecimal.proofs.all_digits.Given as goal
+
+abbrev pub invariant-loop-i : goal.invariant-loop-i
+invariant-loop-i l = (l.i ≤ length l.text) × (l.all ≡ all_digits (take l.i l.text))
+
+abbrev pub decreases-loop-i : goal.decreases-loop-i
+decreases-loop-i l = length l.text - l.i

@@ -1,0 +1,6 @@
+use Rattle.index.proofs.IndexLaws.{at-is}
+use borrow.Author.Rules.{rules}
+use Rattle.index.proofs.at.Goals as goal
+
+pub returns : goal.returns
+returns c = at-is _ c.requires

@@ -1,0 +1,6 @@
+use Rattle.paths.proofs.Steps.{empty-made}
+use borrow.Author.Rules.{rules}
+use Rattle.paths.proofs.new_empty_leaf.Goals as goal
+
+pub returns : goal.returns
+returns c = empty-made _ _ _ c.make_leaf.ensures

@@ -1,0 +1,22 @@
+use mathlib.Core.Path.{◌≡◌, refl, ◌∙◌}
+use Prim.Native.Nat.{◌-◌, ◌<◌}
+use native.Mathlib.Omega.{arith}
+use lib.ListN.{length, get_or}
+use Rattle.store.specs.Store.{store_of}
+use Rattle.sweep.specs.Sweep.{sweep}
+use Rattle.sweep.proofs.Sweeping.{Sweeping, lowered-sweeping, next-node, sweep-turn, swept-release}
+use borrow.Author.Rules.{rules}
+use Rattle.sweep.proofs.release.Given as goal
+
+abbrev pub invariant-loop-at : goal.invariant-loop-at
+invariant-loop-at l =
+    (length l.kinds ≡ length l.initial.kinds)
+    × (length l.used ≡ length l.initial.used)
+    × (length l.counts ≡ length l.initial.counts)
+    × (length l.order ≡ length l.initial.order)
+    × Sweeping l.at (store_of l.kinds l.used l.counts l.cells l.order l.f)
+    × (sweep (length l.initial.order - l.at) (store_of l.kinds l.used l.counts l.cells l.order l.f) l.at
+    ≡ sweep (length l.initial.order - l.initial.at) (store_of l.initial.kinds l.initial.used l.initial.counts l.cells l.initial.order l.initial.f) l.initial.at)
+
+abbrev pub decreases-loop-at : goal.decreases-loop-at
+decreases-loop-at l = length l.initial.order - l.at

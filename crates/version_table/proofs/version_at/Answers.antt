@@ -1,0 +1,104 @@
+use mathlib.Core.Path.{refl, sym}
+use Prim.Native.Nat.{ℕ, ◌<◌, ◌^◌}
+use mathlib.Core.List.{List, [], ◌∷◌}
+use lib.ListN.{length, get_or}
+use seplogic.Ra.Ura.{Ura}
+use seplogic.Ra.TreeShare.{full_share}
+use mir.Syntax.{named, w64, ty_ptr}
+use mir.Val.{Val, vint, vptr}
+use base.Logic.{SProp, ent}
+use base.Fml.{Lft, GName, Share, ftrue, fat, flft}
+use prog.Memory.{Memory}
+use prog.Routine.{Routine}
+use prog.Wp.{Calls, Loops, WpFn, Tables}
+use types.Logic.{Logic}
+use contract.Monad.{Fun}
+use contract.Running.{tables, tables_of}
+use types.Kit.{‵, ◌⊛◌, ⋆, ◌$◌, ◌∵◌, !, qed, by, move, keep, split, join, rewrite, fsplit, fjoin, suffices, frame, done}
+use types.Part.{whole, sub, look_in}
+use types.Run.{look, look_raw, init, forget, stop, hop, fld, from, load, lit, of_opd, bin, assigns, returns, enter, alloc1, alloc0, params1, pass1, pass0, free1, free0}
+use sound.WpLaws.{WpFn-mono}
+use denote.RattleType.{owns}
+use denote.Laws.{Is, shows}
+use denote.Plain.{uint_vals, uint_Tells}
+use denote.Builtin.{usize}
+use denote.Ref.{Bor}
+use denote.Slice.{slice_val, ShrSlice, Room, shr_slice_vals, shr_slice_Tells}
+use denote.Index.{elem_out, elem_back, looks_slice, shuts_slice}
+use denote.Signature.{plain}
+use denote.Steps.{nothing, owned}
+use denote.Triple.Entry.{on_entry}
+use denote.Triple.Spec.{Meets, triple_of}
+use denote.Triple.Table.{entered}
+use denote.Triple.Walked.{says, needs, Stays, stay_none_slice, stay_none, walk_of, Goes-none_slice, Goes-none, Walks, ends_at, walked, walk_Meets}
+use denote.Exit.{yes}
+use Rattle.records.specs.declared.Version.{Version}
+use Rattle.version_table.specs.Tables.{blank}
+use Rattle.version_table.proofs.Row.{R, val, vals, tells, at_place, fits, makes, copy, typed}
+use Rattle.version_table.specs.contracts.version_at.Key.{name as #f}
+use Rattle.version_table.specs.contracts.version_at as f
+use Rattle.version_table.proofs.version_at.Code as code
+use Rattle.version_table.proofs.version_at.Goals as goal
+
+-- `version_table::version_at` meets its contract: a walk of its MIR, by hand. The place of `versions[n]` is i * 16 past the slice's pointer; the borrow is looked into, the record is read there whole, and the borrow is shut.
+-- Assumes nothing.
+
+abbrev stayed : Stays (f.ended).signature.params (f.ended).kept
+stayed = (stay_none_slice (0 ∷ []) tt (plain (λ _. R)) yes, (stay_none (λ _. usize) yes, tt))
+
+module _ {M : Type 1} {𝓤 : Ura M} (𝓛 : Logic 𝓤) (mem : Memory → SProp 𝓤) (run : Routine → Fun 𝓤) (κ : Lft) (q : Share) (b o : ℕ) (γ : GName) (ys : List Version) (i : ℕ) where
+  open 𝓛 use {H}
+
+  abbrev x : Bor (List Version)
+  x = record { ref_ptr = (b, o); now = ys }
+
+  abbrev elem : Version
+  elem = get_or ys i blank
+
+  abbrev at : List Val × (List Val × Unit {0})
+  at = (slice_val (b, o) (length ys) ∷ [], (vint w64 i ∷ [], tt))
+
+  abbrev Post : Val → SProp 𝓤
+  Post = (walk_of 𝓛 f.ended stayed (f.clauses 𝓛 mem run)).post (((κ, tt), (q, tt), tt, (x, (i, tt)), at), tt)
+
+  exits : Is R elem (vals elem) → ent 𝓤 (⋆ 𝓛 (‵ (flft κ q) ∷ ‵ ((ShrSlice (named 0) κ R).own_val x at.0) ∷ ‵ (usize.own_val i (vint w64 i ∷ [])) ∷ [])) (Post (val elem))
+  exits g =
+      qed 𝓛 (‵ (flft κ q) ∷ ‵ ((ShrSlice (named 0) κ R).own_val x at.0) ∷ ‵ (usize.own_val i (vint w64 i ∷ [])) ∷ []) ∵
+      suffices ! _ (ends_at 𝓛 f.ended stayed (f.clauses 𝓛 mem run) (((κ, tt), (q, tt), tt, (x, (i, tt)), at), tt) (val elem) elem (tt, (tt, tt)) (tt, (tt, tt))) $ says ! refl $
+      nothing ! $ move ! (1 ∷ 0 ∷ []) $ join ! $ nothing ! $ move ! (3 ∷ 0 ∷ []) $ fjoin ! $ move ! (2 ∷ 0 ∷ []) $ fjoin ! $ move ! (1 ∷ 0 ∷ []) $
+      frame ! $ frame ! $ owned ! R (Is R) (makes 𝓛) elem (vals elem) g $ done !
+
+  module _ (C : Calls 𝓤 H) (Λ : Loops 𝓤 H) where
+    walk : Room R (length ys) → i < 2 ^ 64 → i < length ys → ent 𝓤 (on_entry 𝓛 f.signature (κ, tt) (q, tt) (x, (i, tt)) at)
+        (WpFn 𝓤 H C Λ code.function (slice_val (b, o) (length ys) ∷ vint w64 i ∷ []) Post)
+    walk gn gi l =
+        qed 𝓛 ((‵ (flft κ q) ⊛ ‵ ftrue) ∷ ‵ (owns (ShrSlice (named 0) κ R ∷ usize ∷ []) (x, (i, tt)) at) ∷ []) ∵ enter ! C Λ code.function (slice_val (b, o) (length ys) ∷ vint w64 i ∷ []) _ $
+        alloc1 ! (λ l₀. alloc1 ! (λ l₁. alloc1 ! (λ l₂. alloc1 ! (λ l₃. alloc1 ! (λ l₄. alloc1 ! (λ l₅. alloc0 ! $ params1 ! $
+        pass1 ! (init ! 8 refl (tt, (tt, (record { fits = gn.0 }, tt)))) $ pass1 ! (init ! 6 refl (tt, record { fits = gi })) $ pass0 ! $
+        -- [_5; …; _4; …; _3; …; _2; …; _1; …; _0; …; the token; what t and i own]
+        assigns ! (bin ! (load ! (from ! (stop !)) (look ! 6 refl)) (lit ! tt) (record { fits = fits i (length ys) l gn })) (from ! (stop !)) (init ! 4 refl (tt, record { fits = fits i (length ys) l gn })) $
+        assigns ! (bin ! (load ! (from ! (fld ! refl (stop !))) (look_in ! 8 (sub ! 0 refl (whole !)))) (load ! (from ! (stop !)) (look ! 4 refl)) tt) (from ! (stop !)) (init ! 2 refl (tt, tt)) $
+        rewrite ! 2 (λ (p : ℕ). ‵ (fat full_share ty_ptr l₄ 0 (vptr b p))) (sym (at_place o i)) refl $
+        move ! (13 ∷ []) $ fsplit ! $ fsplit ! $ move ! (1 ∷ []) $ fsplit ! $ move ! (16 ∷ []) $ split ! $ move ! (3 ∷ 0 ∷ []) $
+        looks_slice ! tt R (Is R) (shows 𝓛 R) vals tells (copy 𝓛) ys b o (λ q'. elem_out ! R (Is R) (shows 𝓛 R) vals tells q' ys i blank b o l (λ g.
+        -- [t[i]; what it owns; the others; what shuts; the fractured borrow; true; res; t's fact; i's; _5; …; _4; …; _3; …; _2; …; _1; …; _0; …]
+        assigns ! (of_opd ! (load ! (from ! (hop ! (look ! 11 refl) (stop !))) (look_raw ! 0 refl))) (from ! (stop !)) (init ! 9 refl (typed 𝓛 elem _ g)) $
+        assigns ! (of_opd ! (load ! (from ! (stop !)) (look ! 9 refl))) (from ! (stop !)) (init ! 19 refl (typed 𝓛 elem _ g)) $
+        elem_back ! R q' ys i blank (vals elem) b o l $ shuts_slice ! tt R q' ys b o $
+        returns ! (look ! 16 refl) $ forget ! 6 refl $ forget ! 8 refl $ forget ! 10 refl $ forget ! 12 refl $ forget ! 14 refl $ forget ! 16 refl $
+        move ! (16 ∷ 17 ∷ []) $ free1 ! $ move ! (14 ∷ 15 ∷ []) $ free1 ! $ move ! (12 ∷ 13 ∷ []) $ free1 ! $ move ! (10 ∷ 11 ∷ []) $ free1 ! $ move ! (8 ∷ 9 ∷ []) $ free1 ! $ move ! (6 ∷ 7 ∷ []) $ free1 ! $ free0 ! $
+        move ! (3 ∷ 1 ∷ []) $ fjoin ! $ move ! (3 ∷ 0 ∷ []) $ fjoin ! $ move ! (3 ∷ []) $ fsplit ! $ keep ! (3 ∷ 2 ∷ 0 ∷ []) $ by ! (exits g)))))))))
+
+module _ {M : Type 1} {𝓤 : Ura M} (𝓛 : Logic 𝓤) (mem : Memory → SProp 𝓤) (run : Routine → Fun 𝓤) where
+  open 𝓛 use {H}
+
+  f-walks : (C : Calls 𝓤 H) (Λ : Loops 𝓤 H) → Walks 𝓛 f.ended stayed (WpFn 𝓤 H C Λ code.function) (f.clauses 𝓛 mem run)
+  f-walks C Λ = walked 𝓛 f.ended stayed (f.clauses 𝓛 mem run) (WpFn 𝓤 H C Λ code.function) (λ κs. (shr_slice_vals, (uint_vals w64, tt))) (λ κs. (shr_slice_Tells (named 0) κs.0 R, (uint_Tells w64, tt)))
+      (λ κs qs bounds a g are. needs 𝓤 (a.1.0 < length a.0.now) _
+      (walk 𝓛 mem run κs.0 qs.0 a.0.ref_ptr.0 a.0.ref_ptr.1 0 a.0.now a.1.0 C Λ are.0.0.1 are.1.0.1))
+
+f_meets : {M : Type 1} {𝓤 : Ura M} (𝓛 : Logic 𝓤) → (mem : Memory → SProp 𝓤) (run : Routine → Fun 𝓤) (𝓣 : Tables 𝓤 𝓛.H)
+    → Meets 𝓛 f.signature (WpFn 𝓤 𝓛.H 𝓣.C 𝓣.Λ code.function) (f.spec 𝓛 mem run)
+f_meets {𝓤 = 𝓤} 𝓛 mem run 𝓣 =
+    walk_Meets 𝓛 f.ended stayed (Goes-none_slice 𝓛 1 (0 ∷ []) tt (plain (λ _. R)) yes, (Goes-none 𝓛 1 (λ _. usize) yes (λ κs x f. refl), tt)) (f.clauses 𝓛 mem run)
+    (WpFn 𝓤 𝓛.H 𝓣.C 𝓣.Λ code.function) (WpFn-mono 𝓤 𝓛.H 𝓛.laws 𝓣 code.function) (f-walks 𝓛 mem run 𝓣.C 𝓣.Λ)
