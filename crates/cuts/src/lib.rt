@@ -1,4 +1,6 @@
 // Module 3: a path copied without its last element. What would be empty is left out.
+#![tactic(auto)]
+
 ghost use Rattle.std.specs.Prelude.{◌≡◌, ◌&&◌, List, ℕ, ◌-◌, ◌*◌, ◌^◌, ◌≤◌, ◌<◌, leb, eqb, length, get_or};
 ghost use Rattle.meaning.specs.Limits.{word_width};
 ghost use Rattle.meaning.specs.Counting.{divides};

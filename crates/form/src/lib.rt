@@ -1,4 +1,6 @@
 // A fresh state in what a host lends. The cells of its nodes stay as they are.
+#![tactic(auto)]
+
 ghost use Rattle.std.specs.Prelude.{◌≡◌, ◌≤◌, pos, length, replicate};
 ghost use Rattle.meaning.specs.Limits.{max_nodes};
 ghost use Rattle.meaning.specs.Fresh.{down_from};

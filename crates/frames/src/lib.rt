@@ -1,1 +1,2 @@
 // Nothing runs here yet: the model of serving a frame stands in specs/.
+#![tactic(auto)]

@@ -1,4 +1,6 @@
 // One level of a walk, changed in place: a node and a signed index. The levels of sixteen walks stand in two arrays, and a level is named by its place.
+#![tactic(auto)]
+
 ghost use Rattle.std.specs.Prelude.{◌≡◌, Bool, true, false, ◌+◌, ◌<◌, get_or};
 ghost use Rattle.meaning.specs.Limits.{places};
 ghost use Rattle.level.specs.Level.{levels, current_at, pushed, popped, dug, stepped_at, ended_at, place_at, StaysAt, passed_at};

@@ -1,4 +1,6 @@
 // A stack of levels, changed in place: the leaf's level first, from its place upwards.
+#![tactic(auto)]
+
 ghost use Rattle.std.specs.Prelude.{◌≡◌, Bool, true, false, List, ℕ, suc, ◌+◌, ◌<◌, ◌≤◌, ltb};
 ghost use Rattle.meaning.specs.Limits.{places};
 ghost use Rattle.meaning.specs.Shape.{height};

@@ -1,4 +1,6 @@
 // The answers of the vector's calls as those of frames, with document 01's numbers.
+#![tactic(auto)]
+
 ghost use Rattle.std.specs.Prelude.{◌≡◌, ◌%◌};
 ghost use Rattle.served.specs.Served.{refused_with, answered_with, served_done, edited_with, got_with, ordered_with};
 

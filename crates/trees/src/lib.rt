@@ -1,1 +1,2 @@
 // Nothing runs here: the laws of shapes, contents and path copying stand in proofs/.
+#![tactic(auto)]

@@ -1,4 +1,6 @@
 // Module 4: the calls on a version. Each refuses before it writes anything.
+#![tactic(auto)]
+
 ghost use Rattle.std.specs.Prelude.{◌≡◌, List, ℕ, ◌+◌, ◌-◌};
 ghost use Rattle.meaning.specs.Lent.{Nodes};
 ghost use Rattle.records.specs.Records.{record_of};

@@ -1,4 +1,6 @@
 // Module 5: sixteen walk records, lent flat and changed in place. A walk takes the elements of a version from both ends.
+#![tactic(auto)]
+
 ghost use Rattle.std.specs.Prelude.{◌≡◌, ℕ, ◌+◌, ◌*◌, ◌<◌, ◌≤◌, List};
 ghost use Rattle.meaning.specs.Counting.{bit};
 ghost use Rattle.meaning.specs.Limits.{walk_count, walk_levels, places};

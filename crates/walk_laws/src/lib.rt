@@ -1,1 +1,2 @@
 // No code: what is proved of the walks stands in proofs/.
+#![tactic(auto)]

@@ -14,11 +14,11 @@ loop-i-init c = look-begins _ (λ (j : ℕ). get_or c.args.cells.now (c.args.at 
 
 -- src/lib.rt:53:26
 pub overflow_add-ok : goal.overflow_add-ok
-overflow_add-ok c = omega (arith, c.loop-i-test.true, c.requires, c.well-formed)
+overflow_add-ok c = omega (arith, c.loop-i-test.true, c.requires, c.well_formed)
 
 -- src/lib.rt:53:20
 pub offset_bounds-cells-at : goal.offset_bounds-cells-at
-offset_bounds-cells-at c = omega (arith, c.loop-i-test.true, c.requires, c.well-formed)
+offset_bounds-cells-at c = omega (arith, c.loop-i-test.true, c.requires, c.well_formed)
 
 -- src/lib.rt:53:20
 pub bounds-cells-at : goal.bounds-cells-at

@@ -13,6 +13,7 @@ use Rattle.audit_model.specs.Tallies.{raise_to}
 use Rattle.audit_model.specs.Records.{all_to}
 use Rattle.audit_model.specs.Made.{kinds_of}
 use Rattle.audit_tally.proofs.Raising.{to_start, to-next, to-ends, to-under, to_same}
+use mathlib.Core.Bool.{not}
 use Rattle.audit_tally.proofs.tally_order.Given as goal
 
 abbrev pub invariant-loop-j : goal.invariant-loop-j

@@ -6,6 +6,8 @@ use borrow.Author.Rules.{rules}
 use Rattle.audit_model.proofs.Steps.{Held, held_start, held_next}
 use Rattle.audit_model.specs.Records.{level_is}
 use Rattle.audit_walks.proofs.Walking.{level-read, blank-ends, blank-fails}
+use mathlib.Core.Path.{ap}
+use mathlib.Core.Bool.{not}
 use Rattle.audit_walks.proofs.blank_from.Given as goal
 
 abbrev pub invariant-loop-k : goal.invariant-loop-k

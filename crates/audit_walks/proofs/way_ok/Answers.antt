@@ -5,6 +5,8 @@ use borrow.Author.Tests.{not-true, not-false}
 use borrow.Author.Rules.{rules}
 use Rattle.audit_model.specs.Records.{way_ok}
 use Rattle.audit_walks.proofs.Walking.{level-read, way_next, way-fails, way-ends, shift-takes, shift_falls, lower-shift}
+use mathlib.Core.Path.{ap}
+use mathlib.Core.Bool.{not}
 use Rattle.audit_walks.proofs.way_ok.Goals as goal
 
 -- `audit_walks::way_ok` meets its contract: at each turn the shift is that of the height.
@@ -23,7 +25,7 @@ returns-then-not-right c =
     let a = c.args in
     let l = c.loop-k in
     let cell = shift-takes _ l.k l.shift a.index _ c.requires.1 c.mask-mask.ensures l.invariant.1 in
-    way-fails a.nodes.now a.indices.now a.stack a.cells.now _ _ _ _ l.k l.n _ c.loop-k-test.true cell.0 (level-read a.nodes.now a.indices.now a.stack l.k _ _ _ _ refl c.level_is-right.ensures) (not-true _ c.if-not-right.true) l.invariant.2
+    way-fails a.nodes.now a.indices.now a.stack a.cells.now _ _ _ _ l.k l.n _ c.loop-k-test.true cell.0 (level-read a.nodes.now a.indices.now a.stack l.k _ _ _ _ refl c.level_is-right.ensures) (not-true _ (ap not c.if-not-right.true)) l.invariant.2
 
 pub overflow_sub-shift : goal.overflow_sub-shift
 overflow_sub-shift c = (shift_falls _ _ _ c.loop-k-test.true c.loop-k.invariant.1).0
@@ -36,7 +38,7 @@ loop-k-preserved c =
     let a = c.args in
     let l = c.loop-k in
     let cell = shift-takes _ l.k l.shift a.index _ c.requires.1 c.mask-mask.ensures l.invariant.1 in
-    let next = way_next a.nodes.now a.indices.now a.stack a.cells.now _ _ _ _ l.k l.n _ _ c.loop-k-test.true cell.0 (level-read a.nodes.now a.indices.now a.stack l.k _ _ _ _ refl c.level_is-right.ensures) (not-false _ c.if-not-right.false) c.cell_at-n.ensures l.invariant.2 in
+    let next = way_next a.nodes.now a.indices.now a.stack a.cells.now _ _ _ _ l.k l.n _ _ c.loop-k-test.true cell.0 (level-read a.nodes.now a.indices.now a.stack l.k _ _ _ _ refl c.level_is-right.ensures) (not-false _ (ap not c.if-not-right.false)) c.cell_at-n.ensures l.invariant.2 in
     (omega (arith, l.invariant.0), (shift_falls _ _ _ c.loop-k-test.true l.invariant.1).1, next)
 
 pub bucket-b-requires : goal.bucket-b-requires

@@ -18,7 +18,7 @@ pub bounds-marks-i : goal.bounds-marks-i
 bounds-marks-i c = omega (arith, c.requires.marked)
 
 pub overflow_mul-i : goal.overflow_mul-i
-overflow_mul-i c = record { fits = omega (arith, c.requires.room, c.well-formed.1.1.1.0) }
+overflow_mul-i c = record { fits = omega (arith, c.requires.room, c.well_formed.1.1.1.0) }
 
 pub print_line-frames-requires : goal.print_line-frames-requires
 print_line-frames-requires c = line-can _ _ _ _ c.requires _ c.loop-i.invariant.1 _ c.loop-i.i c.loop-i-test.true c.loop-i.invariant.2
@@ -27,7 +27,7 @@ pub loop-i-preserved : goal.loop-i-preserved
 loop-i-preserved c = let n = next-printed _ _ _ _ c.requires _ c.loop-i.invariant.1 _ c.loop-i.i c.loop-i-test.true c.loop-i.invariant.2 _ _ c.loop-i.invariant.3 c.print_line-frames.ensures in (omega arith, n.0, n.1, n.2)
 
 pub overflow_mul-result : goal.overflow_mul-result
-overflow_mul-result c = record { fits = omega (arith, c.requires.room, c.well-formed.1.1.1.0) }
+overflow_mul-result c = record { fits = omega (arith, c.requires.room, c.well_formed.1.1.1.0) }
 
 pub shape_of-out : goal.shape_of-out
 shape_of-out c = c.loop-i.invariant.1

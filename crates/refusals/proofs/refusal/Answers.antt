@@ -7,7 +7,7 @@ use Rattle.refusals.proofs.refusal.Goals as goal
 pub returns : goal.returns
 returns c =
     let a = c.args in
-    refusal_is (frame_of a.f) (standing a.source-live a.target-live a.walk-open a.opened-open) _ _ _ _ _ _ _ _ _ _ _
+    refusal_is (frame_of a.f) (standing a.source_live a.target_live a.walk_open a.opened_open) _ _ _ _ _ _ _ _ _ _ _
     c.uses_of-uses.ensures
     c.last.ensures
     c.last-2.ensures

@@ -10,7 +10,7 @@ use Rattle.refusals.proofs.uses_of.Goals as goal
 
 pub returns-then-i-lt-OPERATIONS : goal.returns-then-i-lt-OPERATIONS
 unfolding operations flags_of flag_of uses anyone host_alone
-returns-then-i-lt-OPERATIONS c = flags-listed (frame_of BADc.before.before.args.f)
+returns-then-i-lt-OPERATIONS c = flags-listed (frame_of c.args.f)
 
 pub returns : goal.returns
 unfolding operations flags_of flag_of uses anyone host_alone

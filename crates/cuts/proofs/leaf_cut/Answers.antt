@@ -1,0 +1,6 @@
+use Rattle.paths.proofs.Steps.{leaf-cut}
+use borrow.Author.Rules.{rules}
+use Rattle.cuts.proofs.leaf_cut.Goals as goal
+
+pub returns : goal.returns
+returns c = leaf-cut _ _ c.args.c.cells c.args.c.used _ _ c.make_leaf.ensures

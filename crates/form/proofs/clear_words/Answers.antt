@@ -1,0 +1,17 @@
+use mathlib.Core.Path.{refl}
+use Prim.Native.Nat.{◌-◌}
+use lib.ListN.{length}
+use borrow.Author.Rules.{rules}
+use Rattle.form.proofs.Filling.{Filled, fill-starts, fill-turn, fill-ends}
+use Rattle.form.proofs.clear_words.Goals as goal
+
+-- `form::clear_words` meets its contract.
+
+pub loop-i-init : goal.loop-i-init
+loop-i-init c = fill-starts _ _ _ refl
+
+pub loop-i-preserved : goal.loop-i-preserved
+loop-i-preserved c = fill-turn _ _ _ _ c.loop-i.invariant c.loop-i-test.true
+
+pub returns : goal.returns
+returns c = fill-ends _ (length c.args.words.now) _ _ c.loop-i.invariant c.loop-i-test.false

@@ -1,0 +1,15 @@
+use mathlib.Core.Path.{◌≡◌, refl}
+use Prim.Native.Nat.{◌≤◌}
+use native.Mathlib.Omega.{arith}
+use borrow.Author.Rules.{rules}
+use Rattle.level.specs.Level.{levels}
+use Rattle.levels.specs.Levels.{popped_down}
+use Rattle.levels.proofs.StackLaws.{pops-on, popped-all}
+use Rattle.levels.proofs.pop_down.Given as goal
+
+abbrev pub invariant-loop-j : goal.invariant-loop-j
+invariant-loop-j l =
+    (l.j ≤ l.h) × (popped_down l.j (levels l.nodes l.indices) l.k ≡ popped_down l.h (levels l.initial.nodes l.initial.indices) l.k)
+
+abbrev pub decreases-loop-j : goal.decreases-loop-j
+decreases-loop-j l = l.j

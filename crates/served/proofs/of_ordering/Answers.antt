@@ -1,0 +1,15 @@
+use Rattle.served.proofs.Answering.{less-is, equal_is, greater-is}
+use borrow.Author.Rules.{rules}
+use Rattle.served.proofs.of_ordering.Goals as goal
+
+-- src/lib.rt:93:1
+pub returns-in-Less : goal.returns-in-Less
+returns-in-Less c = less-is _ _ _ _ c.enum_told-1.given.1 c.answered.ensures
+
+-- src/lib.rt:93:1
+pub returns-in-Equal : goal.returns-in-Equal
+returns-in-Equal c = equal_is _ _ _ _ c.enum_told-in-Equal-1.given.1 c.answered-in-Equal.ensures
+
+-- src/lib.rt:93:1
+pub returns-in-Greater : goal.returns-in-Greater
+returns-in-Greater c = greater-is _ _ _ _ c.enum_told-in-Greater-1.given.1 c.answered-in-Greater.ensures

@@ -1,0 +1,7 @@
+use Rattle.walk.proofs.WalkLaws.{stores}
+use Rattle.records.specs.Records.{record_of}
+use borrow.Author.Rules.{rules}
+use Rattle.walk.proofs.store.Goals as goal
+
+pub returns : goal.returns
+returns c = stores _ _ (record_of c.args.v)
