@@ -1,4 +1,6 @@
 // Whether any bytes are a well-formed lent state. Nothing that is lent is written.
+#![tactic(auto)]
+
 ghost use Rattle.std.specs.Prelude.{◌≡◌, cond};
 ghost use Rattle.meaning.specs.Limits.{max_nodes};
 ghost use Rattle.audit_reads.specs.Slices.{lent_from};

@@ -1,4 +1,6 @@
 // The version and walk records of a lent state.
+#![tactic(auto)]
+
 ghost use Rattle.std.specs.Prelude.{◌≡◌, [], ◌<◌};
 ghost use Rattle.meaning.specs.Limits.{version_count, walk_count};
 ghost use Rattle.records.specs.Records.{record_of, records_of};

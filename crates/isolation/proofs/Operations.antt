@@ -1,6 +1,6 @@
 -- An operation and its number, both ways.
 use mathlib.Core.Path.{◌≡◌, sym, ap, ◌∙◌}
-use mathlib.Core.Bool.{Bool, true, ◌&&◌}
+use mathlib.Core.Bool.{Bool, true, false, ◌&&◌}
 use Prim.Native.Nat.{ℕ, zero, suc, ◌<◌}
 use native.Mathlib.Nat.{lt_irrefl}
 use native.Mathlib.Decide.{dec_lt}
@@ -37,6 +37,8 @@ all_below (suc n) test = test n && all_below n test
 
 both : (a b : Bool) → T (a && b) → T a × T b
 both true true h = (tt, tt)
+both false b h = elim h [ ]
+both true false h = elim h [ ]
 
 pub all_below-at : (n : ℕ) (test : ℕ → Bool) → T (all_below n test) → (i : ℕ) → i < n → T (test i)
 unfolding all_below

@@ -155,8 +155,8 @@ lower-next {s} {n} {roots} at k l = subst (Keeping (lower s n) roots) (sym (lowe
 
 pub lowers-keeps : {s : Store} {roots pending : List ℕ} (ns : List ℕ) → Keeping s (ns ++ roots) pending → Keeping (lowers s ns) roots (pending ++ all_fallen s ns)
 unfolding lowers all_fallen
-lowers-keeps [] k = rw append-nil k
-lowers-keeps (n ∷ ns) k = rw append_assoc at (lowers-keeps ns (lower-keeps k))
+lowers-keeps {s = s} {roots = roots} {pending = pending} [] k = rw append-nil k
+lowers-keeps {s = s} {roots = roots} {pending = pending} (n ∷ ns) k = rw append_assoc at (lowers-keeps {s = lower s n} ns (lower-keeps k))
 
 pub lowers-waiting : {s : Store} {pending : List ℕ} (at : ℕ) (ns roots : List ℕ) → Keeping s (ns ++ roots) pending → at ≤ s.free
     → waiting (lowers s ns) at ≡ waiting s at ++ all_fallen s ns
@@ -164,6 +164,6 @@ unfolding lowers all_fallen
 lowers-waiting {s} at [] roots k l = sym (append-nil (waiting s at))
 lowers-waiting {s} at (n ∷ ns) roots k l =
     let free = lower-free k in
-    lowers-waiting at ns roots (lower-keeps k) (omega arith)
+    lowers-waiting {s = lower s n} at ns roots (lower-keeps k) (omega arith)
     ∙ ap (λ (xs : List ℕ). xs ++ all_fallen (lower s n) ns) (lower-waiting k at l)
     ∙ append_assoc (waiting s at) (fallen (count_in s n) n) (all_fallen (lower s n) ns)

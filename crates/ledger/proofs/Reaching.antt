@@ -46,9 +46,9 @@ module _ {s : Store} {roots : List ℕ} (k : Kept s roots) where
 
   -- ---- how many
 
-  pub free_nodes : free_nodes s.nodes ≡ s.free
+  pub free-nodes : free_nodes s.nodes ≡ s.free
   unfolding free_nodes how_many
-  free_nodes = sym (sum_same (node_count s) _ _ (λ n _. omega (arith, k.ordered n, occurs-none n))) ∙ order-sum k
+  free-nodes = sym (sum_same (node_count s) _ _ (λ n _. omega (arith, k.ordered n, occurs-none n))) ∙ order-sum k
 
   -- N less the nodes reached
   pub free-rest : (mark : ℕ → Bool) → ((n : ℕ) → (mark n ≡ true) ↔ Reached s.nodes roots n) → s.free + how_many (node_count s) mark ≡ node_count s
@@ -56,7 +56,7 @@ module _ {s : Store} {roots : List ℕ} (k : Kept s roots) where
   free-rest mark marks =
       let both = sum-add (node_count s) (λ n. bit (is_free s.nodes n)) (λ n. bit (mark n)) in
       let ones = sum_same (node_count s) _ (λ n. 1) (λ n l. one n l (mark n) refl) in
-      omega (arith, both, ones, many-all (node_count s) (λ _. true) (λ _ _. refl), free_nodes)
+      omega (arith, both, ones, many-all (node_count s) (λ _. true) (λ _ _. refl), free-nodes)
     where
       one : (n : ℕ) → n < node_count s → (b : Bool) → mark n ≡ b → bit (is_free s.nodes n) + bit b ≡ 1
       one n l true e = omega (arith, used-bit s.nodes n (reached-used ((marks n).0 e)))

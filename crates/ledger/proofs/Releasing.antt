@@ -91,7 +91,7 @@ pub sweep-keeps : {s : Store} {roots : List ℕ} (fuel at : ℕ) → Keeping s r
     → Kept (sweep fuel s at) roots
 unfolding sweep
 sweep-keeps zero at k l enough = nothing-waits at k (omega (arith, k.room))
-sweep-keeps {s} {roots} (suc fuel) at k l enough = pick (ltb at s.free) refl (sweep-keeps fuel (at + 1))
+sweep-keeps {s} {roots} (suc fuel) at k l enough = pick (ltb at s.free) refl (sweep-keeps {s = scan s (get_or s.order at 0)} fuel (at + 1))
   where
     onward : Store
     onward = scan s (get_or s.order at 0)

@@ -8,7 +8,7 @@ use Rattle.meaning.specs.WellFormed.{WellFormed}
 use Rattle.meaning.proofs.Sums.{occurs-none}
 use Rattle.store.specs.Store.{Store}
 use Rattle.ledger.specs.Kept.{store_in}
-use Rattle.ledger.proofs.Reaching.{used-iff-reached, free_nodes}
+use Rattle.ledger.proofs.Reaching.{used-iff-reached, free-nodes}
 use Rattle.ledger.proofs.Formed.{well-formed-keeps}
 use Rattle.upkeep.specs.Running.{state_of, Running}
 
@@ -23,7 +23,7 @@ running-formed s vs ws r = record {
   walks = r.walks;
   counted = r.kept.counted;
   reached = used-iff-reached r.kept;
-  once = λ n. rw (free_nodes r.kept) (r.kept.ordered n ∙ omega (arith, occurs-none n));
+  once = λ n. rw (free-nodes r.kept) (r.kept.ordered n ∙ omega (arith, occurs-none n));
   spare = r.kept.spare;
   free_used = λ n l e. r.kept.free_used n e;
   free_count = λ n l e. r.kept.free_count n e;

@@ -23,13 +23,13 @@ pub code_of-mark-requires : goal.code_of-mark-requires
 code_of-mark-requires t c = (c.requires.bits.most, ready-low _ _ _ c.requires, c.requires.size)
 
 pub returns-then-old-mark : goal.returns-then-old-mark
-returns-then-old-mark t c = visit-again (nodes_of c.args.kinds.now c.args.used.now c.args.cells.now) _ _ _ _ c.args.height _ _ c.if-n-len.false BADc.before.before.before.code_of_lem.ensures c.word_at-old.ensures c.if-old-mark.true
+returns-then-old-mark t c = visit-again (nodes_of c.args.kinds.now c.args.used.now c.args.cells.now) _ _ _ _ c.args.height _ _ c.if-n-len.false c.code_of-mark.ensures c.word_at-old.ensures c.if-old-mark.true
 
 pub leaf_ok-right-requires : goal.leaf_ok-right-requires
 leaf_ok-right-requires t c = c.requires.bits
 
 pub returns-then-height-eq0 : goal.returns-then-height-eq0
-returns-then-height-eq0 t c = visit-leaf (nodes_of c.args.kinds.now c.args.used.now c.args.cells.now) _ _ _ _ c.args.height _ _ _ _ _ (record { inside = c.if-n-len.false; mark = BADc.before.before.before.before.before.before.before.before.before.before.before.code_of_lem.ensures; unmarked = λ e. c.if-old-mark.false (c.word_at-old.ensures ∙ e); kind = c.byte_at-kind.ensures.0; used = c.byte_at-u.ensures.0 }) c.if-height-eq0.true c.leaf_ok-right.ensures c.at_leaf.ensures
+returns-then-height-eq0 t c = visit-leaf (nodes_of c.args.kinds.now c.args.used.now c.args.cells.now) _ _ _ _ c.args.height _ _ _ _ _ (record { inside = c.if-n-len.false; mark = c.code_of-mark.ensures; unmarked = λ e. c.if-old-mark.false (c.word_at-old.ensures ∙ e); kind = c.byte_at-kind.ensures.0; used = c.byte_at-u.ensures.0 }) c.if-height-eq0.true c.leaf_ok-right.ensures c.at_leaf.ensures
 
 pub capacity-c-requires : goal.capacity-c-requires
 capacity-c-requires t c = record { legal = c.requires.bits; shift = c.requires.shift }
@@ -38,7 +38,7 @@ pub branch_ok-fits-requires : goal.branch_ok-fits-requires
 branch_ok-fits-requires t c = (c.requires.bits, c.byte_at-u.ensures.1, c.capacity-c.ensures.1, c.requires.size)
 
 pub returns-then-not-fits : goal.returns-then-not-fits
-returns-then-not-fits t c = visit-refused (nodes_of c.args.kinds.now c.args.used.now c.args.cells.now) _ _ _ _ c.args.height _ _ _ _ _ (record { inside = c.if-n-len.false; mark = BADc.before.before.before.before.before.before.before.before.before.code_of_lem.ensures; unmarked = λ e. c.if-old-mark.false (c.word_at-old.ensures ∙ e); kind = c.byte_at-kind.ensures.0; used = c.byte_at-u.ensures.0 }) c.if-height-eq0.false c.capacity-c.ensures.0 c.branch_ok-fits.ensures.0 (not-true _ (ap not c.if-not-fits.true))
+returns-then-not-fits t c = visit-refused (nodes_of c.args.kinds.now c.args.used.now c.args.cells.now) _ _ _ _ c.args.height _ _ _ _ _ (record { inside = c.if-n-len.false; mark = c.code_of-mark.ensures; unmarked = λ e. c.if-old-mark.false (c.word_at-old.ensures ∙ e); kind = c.byte_at-kind.ensures.0; used = c.byte_at-u.ensures.0 }) c.if-height-eq0.false c.capacity-c.ensures.0 c.branch_ok-fits.ensures.0 (not-true _ (ap not c.if-not-fits.true))
 
 pub loop-i-init : goal.loop-i-init
 loop-i-init t c = (refl, omega arith, through-start _ _)
@@ -56,7 +56,7 @@ pub shape_of-codes-then-not-right : goal.shape_of-codes-then-not-right
 shape_of-codes-then-not-right t c = c.descend-right.auto.codes ∙ c.loop-i.invariant.0
 
 pub returns-then-not-right : goal.returns-then-not-right
-returns-then-not-right t c = visit-fails (nodes_of c.args.kinds.now c.args.used.now c.args.cells.now) _ _ _ _ c.args.height _ _ _ _ _ _ (record { inside = c.if-n-len.false; mark = BADc.before.before.before.before.before.before.before.before.before.before.before.before.before.before.before.before.before.before.code_of_lem.ensures; unmarked = λ e. c.if-old-mark.false (c.word_at-old.ensures ∙ e); kind = c.byte_at-kind.ensures.0; used = c.byte_at-u.ensures.0 }) c.if-height-eq0.false c.capacity-c.ensures.0 c.branch_ok-fits.ensures.0 (not-false _ (ap not c.if-not-fits.false)) (through-fails _ _ c.loop-i.i _ c.loop-i.codes _ c.descend-right.result c.loop-i-test.true c.loop-i.invariant.2 (visit-child (nodes_of c.args.kinds.now c.args.used.now c.args.cells.now) _ _ _ _ _ _ _ _ c.loop-i.codes _ c.share-m.ensures c.cell_at-child.ensures c.descend-right.ensures) (not-true _ (ap not c.if-not-right.true)))
+returns-then-not-right t c = visit-fails (nodes_of c.args.kinds.now c.args.used.now c.args.cells.now) _ _ _ _ c.args.height _ _ _ _ _ _ (record { inside = c.if-n-len.false; mark = c.code_of-mark.ensures; unmarked = λ e. c.if-old-mark.false (c.word_at-old.ensures ∙ e); kind = c.byte_at-kind.ensures.0; used = c.byte_at-u.ensures.0 }) c.if-height-eq0.false c.capacity-c.ensures.0 c.branch_ok-fits.ensures.0 (not-false _ (ap not c.if-not-fits.false)) (through-fails _ _ c.loop-i.i _ c.loop-i.codes _ c.descend-right.result c.loop-i-test.true c.loop-i.invariant.2 (visit-child (nodes_of c.args.kinds.now c.args.used.now c.args.cells.now) _ _ _ _ _ _ _ _ c.loop-i.codes _ c.share-m.ensures c.cell_at-child.ensures c.descend-right.ensures) (not-true _ (ap not c.if-not-right.true)))
 
 pub overflow_add-i : goal.overflow_add-i
 overflow_add-i t c = record { fits = omega (arith, c.loop-i-test.true, c.branch_ok-fits.ensures.1 (not-false _ (ap not c.if-not-fits.false))) }
@@ -71,4 +71,4 @@ pub shape_of-codes : goal.shape_of-codes
 shape_of-codes t c = ap length c.put_at.ensures ∙ simp length-set c.loop-i.invariant.0
 
 pub returns : goal.returns
-returns t c = visit-marks (nodes_of c.args.kinds.now c.args.used.now c.args.cells.now) _ _ _ _ c.args.height _ _ _ _ _ c.loop-i.codes _ (record { inside = c.if-n-len.false; mark = BADc.before.before.before.before.before.before.before.before.before.before.before.before.before.before.before.code_of_lem.ensures; unmarked = λ e. c.if-old-mark.false (c.word_at-old.ensures ∙ e); kind = c.byte_at-kind.ensures.0; used = c.byte_at-u.ensures.0 }) c.if-height-eq0.false c.capacity-c.ensures.0 c.branch_ok-fits.ensures.0 (not-false _ (ap not c.if-not-fits.false)) (through-ends _ _ c.loop-i.i _ _ c.loop-i.invariant.2 c.loop-i.invariant.1 c.loop-i-test.false) c.put_at.ensures
+returns t c = visit-marks (nodes_of c.args.kinds.now c.args.used.now c.args.cells.now) _ _ _ _ c.args.height _ _ _ _ _ c.loop-i.codes _ (record { inside = c.if-n-len.false; mark = c.code_of-mark.ensures; unmarked = λ e. c.if-old-mark.false (c.word_at-old.ensures ∙ e); kind = c.byte_at-kind.ensures.0; used = c.byte_at-u.ensures.0 }) c.if-height-eq0.false c.capacity-c.ensures.0 c.branch_ok-fits.ensures.0 (not-false _ (ap not c.if-not-fits.false)) (through-ends _ _ c.loop-i.i _ _ c.loop-i.invariant.2 c.loop-i.invariant.1 c.loop-i-test.false) c.put_at.ensures

@@ -9,7 +9,7 @@ use Rattle.audit_tally.proofs.Raising.{to_start, to-next, to-ends, to-under, to_
 use Rattle.audit_tally.proofs.raise_cells.Given as goal
 
 abbrev pub invariant-loop-i : goal.invariant-loop-i
-invariant-loop-i l = (l.i ≤ l.u) × (l.t ≡ raise_to l.i (λ (l.i : ℕ). get_or l.cells (node_cells * l.n + l.i) 0) l.initial.t)
+invariant-loop-i l = (l.i ≤ l.u) × (l.t ≡ raise_to l.i (λ (i' : ℕ). get_or l.cells (node_cells * l.n + i') 0) l.initial.t)
 
 abbrev pub decreases-loop-i : goal.decreases-loop-i
 decreases-loop-i l = l.u - l.i

@@ -17,7 +17,7 @@ use mathlib.Core.Bool.{not}
 use Rattle.audit_tally.proofs.tally_order.Given as goal
 
 abbrev pub invariant-loop-j : goal.invariant-loop-j
-invariant-loop-j l = (l.j ≤ l.f) × (all_to l.j (λ (l.j : ℕ). is_free (kinds_of l.kinds) (get_or l.order l.j 0)) ≡ true) × (l.t ≡ raise_to l.j (λ (l.j : ℕ). get_or l.order l.j 0) l.initial.t)
+invariant-loop-j l = (l.j ≤ l.f) × (all_to l.j (λ (j' : ℕ). is_free (kinds_of l.kinds) (get_or l.order j' 0)) ≡ true) × (l.t ≡ raise_to l.j (λ (j' : ℕ). get_or l.order j' 0) l.initial.t)
 
 abbrev pub decreases-loop-j : goal.decreases-loop-j
 decreases-loop-j l = l.f - l.j

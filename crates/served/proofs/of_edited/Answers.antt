@@ -4,20 +4,20 @@ use Rattle.served.proofs.of_edited.Goals as goal
 
 -- src/lib.rt:72:1
 pub returns-in-Done : goal.returns-in-Done
-returns-in-Done c = edited-is _ _ _ _ _ c.e-1.given.1 c.done.ensures
+returns-in-Done c = edited-is _ _ _ _ _ c.in-Done.is c.done.ensures
 
 -- src/lib.rt:72:1
 pub returns-in-BadBits : goal.returns-in-BadBits
-returns-in-BadBits c = edited-is _ _ _ _ _ c.enum_told-1.given.1 c.refused.ensures
+returns-in-BadBits c = edited-is _ _ _ _ _ c.in-BadBits.is c.refused.ensures
 
 -- src/lib.rt:72:1
 pub returns-in-NothingThere : goal.returns-in-NothingThere
-returns-in-NothingThere c = edited-is _ _ _ _ _ c.enum_told-in-NothingThere-1.given.1 c.refused-in-NothingThere.ensures
+returns-in-NothingThere c = edited-is _ _ _ _ _ c.in-NothingThere.is c.refused-in-NothingThere.ensures
 
 -- src/lib.rt:72:1
 pub returns-in-Full : goal.returns-in-Full
-returns-in-Full c = edited-is _ _ _ _ _ c.enum_told-in-Full-1.given.1 c.refused-in-Full.ensures
+returns-in-Full c = edited-is _ _ _ _ _ c.in-Full.is c.refused-in-Full.ensures
 
 -- src/lib.rt:72:1
 pub returns-in-NoNodes : goal.returns-in-NoNodes
-returns-in-NoNodes c = edited-is _ _ _ _ _ c.enum_told-in-NoNodes-1.given.1 c.refused-in-NoNodes.ensures
+returns-in-NoNodes c = edited-is _ _ _ _ _ c.in-NoNodes.is c.refused-in-NoNodes.ensures

@@ -4,12 +4,12 @@ use Rattle.served.proofs.of_ordering.Goals as goal
 
 -- src/lib.rt:93:1
 pub returns-in-Less : goal.returns-in-Less
-returns-in-Less c = less-is _ _ _ _ c.enum_told-1.given.1 c.answered.ensures
+returns-in-Less c = less-is _ _ _ _ c.in-Less.is c.answered.ensures
 
 -- src/lib.rt:93:1
 pub returns-in-Equal : goal.returns-in-Equal
-returns-in-Equal c = equal_is _ _ _ _ c.enum_told-in-Equal-1.given.1 c.answered-in-Equal.ensures
+returns-in-Equal c = equal_is _ _ _ _ c.in-Equal.is c.answered-in-Equal.ensures
 
 -- src/lib.rt:93:1
 pub returns-in-Greater : goal.returns-in-Greater
-returns-in-Greater c = greater-is _ _ _ _ c.enum_told-in-Greater-1.given.1 c.answered-in-Greater.ensures
+returns-in-Greater c = greater-is _ _ _ _ c.in-Greater.is c.answered-in-Greater.ensures
