@@ -11,7 +11,7 @@ import re
 
 # words of std's own, and names of numbers written out
 KEPT = re.compile(r"\w*_[A-Z]\w*|n[0-9A-F]+|getD")
-PART = re.compile(r"[A-Za-z_][A-Za-z0-9_₀-₉]*")
+PART = re.compile(r"(?<![A-Za-z0-9_₀-₉])[A-Za-z_][A-Za-z0-9_₀-₉]*")
 WORDS = ["push-back", "drop-last", "open-walk", "next-back", "close-walk", "hand-over", "free-nodes"]
 # lemmas that would have their function's name
 LEMMAS = {"crates/audit_model/proofs/Decides.antt": ["is_free"], "crates/serving/proofs/Demands.antt": ["in_use"]}

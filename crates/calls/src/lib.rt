@@ -1,4 +1,6 @@
 // What a frame that passes the first six checks does: a tree of calls, the rarer operations deeper.
+#![tactic(auto)]
+
 mod reads;
 mod walks;
 

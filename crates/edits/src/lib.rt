@@ -1,4 +1,6 @@
 // The operations that edit: what a frame that passes the first six checks makes of the store and of the record that it fills or empties.
+#![tactic(auto)]
+
 ghost use Rattle.std.specs.Prelude.{◌≡◌, ◌≢◌, List, ℕ};
 ghost use Rattle.meaning.specs.Limits.{NEW};
 ghost use Rattle.meaning.specs.Lent.{Nodes};

@@ -44,8 +44,8 @@ without_limit fs = map (λ (f : Frame). record { supply = no_limit; frame = f })
 -- of parties 0 to 7, without the operations 0C and 0D
 pub record Own (f : Frame) : Type 0 where
   pub party : f.party ≤ last_party
-  pub not_hand_over : f.operation ≢ 0x0_c
-  pub not_free_nodes : f.operation ≢ 0x0_d
+  pub not_hand_over : f.operation ≢ 0x0C
+  pub not_free_nodes : f.operation ≢ 0x0D
 
 -- ---- the statement
 

@@ -22,17 +22,17 @@ pub const OPEN_WALK: u8 = 0x08;
 
 pub const NEXT: u8 = 0x09;
 
-pub const NEXT_BACK: u8 = 0x0_a;
+pub const NEXT_BACK: u8 = 0x0A;
 
-pub const CLOSE_WALK: u8 = 0x0_b;
+pub const CLOSE_WALK: u8 = 0x0B;
 
-pub const HAND_OVER: u8 = 0x0_c;
+pub const HAND_OVER: u8 = 0x0C;
 
-pub const FREE_NODES: u8 = 0x0_d;
+pub const FREE_NODES: u8 = 0x0D;
 
-pub const FIRST: u8 = 0x0_e;
+pub const FIRST: u8 = 0x0E;
 
-pub const LAST: u8 = 0x0_f;
+pub const LAST: u8 = 0x0F;
 
 pub const COMPARE: u8 = 0x10;
 

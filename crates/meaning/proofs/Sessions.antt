@@ -43,8 +43,8 @@ pub example
     ∷ (0x010401000000000100000000 with 254)
     ∷ (0x020301000000000000000000 with 254)
     ∷ (0x010800000000000000000000 with 254)
-    ∷ (0x010_a00000000000000000000 with 254)
-    ∷ (0x000_d00000000000000000000 with 254)
+    ∷ (0x010A00000000000000000000 with 254)
+    ∷ (0x000D00000000000000000000 with 254)
     ∷ [])
     ≡ 0x000100000000
     ∷ 0x000100000000
@@ -53,7 +53,7 @@ pub example
     ∷ 0x050000000000
     ∷ 0x000000000000
     ∷ 0x080000000000
-    ∷ 0x0000000000_fe
+    ∷ 0x0000000000FE
     ∷ []
 unfolding session
 example = refl
@@ -62,14 +62,14 @@ example = refl
 
 pub refusals
     : session fresh_table
-    ((0x08_ffffffffffffffffffffff with 0)  -- 1: party 8, whatever else is wrong
-    ∷ (0x07110909_ffffffffffffffff with 0)  -- 2: operation 11
-    ∷ (0x010_c0909_ffffffffffffffff with 0)  -- 3: hand-over by party 1
-    ∷ (0x010_d00000000000000000000 with 0)  -- 3: free nodes asked by party 1
-    ∷ (0x000_c00000000000800000001 with 0)  -- 4: hand-over from party 8
+    ((0x08FFFFFFFFFFFFFFFFFFFFFF with 0)  -- 1: party 8, whatever else is wrong
+    ∷ (0x07110909FFFFFFFFFFFFFFFF with 0)  -- 2: operation 11
+    ∷ (0x010C0909FFFFFFFFFFFFFFFF with 0)  -- 3: hand-over by party 1
+    ∷ (0x010D00000000000000000000 with 0)  -- 3: free nodes asked by party 1
+    ∷ (0x000C00000000000800000001 with 0)  -- 4: hand-over from party 8
     ∷ (0x010800020000000000000000 with 0)  -- 4: open walk 2, before the empty slot is seen
     ∷ (0x010200000000000000000000 with 0)  -- 5: release of an empty slot
-    ∷ (0x010_b00000000000000000000 with 0)  -- 5: close of a closed walk
+    ∷ (0x010B00000000000000000000 with 0)  -- 5: close of a closed walk
     ∷ (0x010000000000000000000000 with 9)  -- 7: bits 0
     ∷ (0x010000000000000600000000 with 9)  -- 7: bits 6
     ∷ (0x010000000000000500000000 with 0)  -- 10: no node for a new version
@@ -80,7 +80,7 @@ pub refusals
     ∷ (0x010600010000000000000007 with 0)  -- 10: a push with no node
     ∷ [])
     ≡ 0x010000000000 ∷ 0x020000000000 ∷ 0x030000000000 ∷ 0x030000000000 ∷ 0x040000000000 ∷ 0x040000000000 ∷ 0x050000000000 ∷ 0x050000000000
-    ∷ 0x070000000000 ∷ 0x070000000000 ∷ 0x0_a0000000000 ∷ 0x000100000000 ∷ 0x060000000000 ∷ 0x060000000000 ∷ 0x080000000000 ∷ 0x0_a0000000000 ∷ []
+    ∷ 0x070000000000 ∷ 0x070000000000 ∷ 0x0A0000000000 ∷ 0x000100000000 ∷ 0x060000000000 ∷ 0x060000000000 ∷ 0x080000000000 ∷ 0x0A0000000000 ∷ []
 unfolding session
 refusals = refl
 
@@ -100,27 +100,27 @@ pub walking
     ((0x010800010000000000000000 with 0)
     ∷ (0x010200000000000000000000 with 0)
     ∷ (0x010901000000000000000000 with 0)
-    ∷ (0x010_a01000000000000000000 with 0)
+    ∷ (0x010A01000000000000000000 with 0)
     ∷ (0x010901000000000000000000 with 0)
     ∷ (0x010901000000000000000000 with 0)
-    ∷ (0x010_a01000000000000000000 with 0)
-    ∷ (0x010_b01000000000000000000 with 0)
+    ∷ (0x010A01000000000000000000 with 0)
+    ∷ (0x010B01000000000000000000 with 0)
     ∷ (0x010901000000000000000000 with 0)
     ∷ [])
-    ≡ 0x000000000000 ∷ 0x000000000000 ∷ 0x00000000000_b ∷ 0x00000000000_d ∷ 0x00000000000_c ∷ 0x080000000000 ∷ 0x080000000000 ∷ 0x000000000000 ∷ 0x050000000000 ∷ []
+    ≡ 0x000000000000 ∷ 0x000000000000 ∷ 0x00000000000B ∷ 0x00000000000D ∷ 0x00000000000C ∷ 0x080000000000 ∷ 0x080000000000 ∷ 0x000000000000 ∷ 0x050000000000 ∷ []
 unfolding session stocked listed
 walking = refl
 
 -- the host hands slot 0 of party 1 to slot 3 of party 2, which reads it, also after party 1 has released it
 pub handing
     : session (stocked (listed 5 (11 ∷ 12 ∷ 13 ∷ []) ∷ []))
-    ((0x000_c00030000000100000002 with 0)
+    ((0x000C00030000000100000002 with 0)
     ∷ (0x010200000000000000000000 with 0)
     ∷ (0x020403000000000200000000 with 0)
-    ∷ (0x000_c03030000000200000002 with 0)  -- 6: within one party, onto itself
+    ∷ (0x000C03030000000200000002 with 0)  -- 6: within one party, onto itself
     ∷ (0x000303000000000000000000 with 0)  -- 5: the host's own slot 3 is empty still
     ∷ [])
-    ≡ 0x000000000000 ∷ 0x000000000000 ∷ 0x00000000000_d ∷ 0x060000000000 ∷ 0x050000000000 ∷ []
+    ≡ 0x000000000000 ∷ 0x000000000000 ∷ 0x00000000000D ∷ 0x060000000000 ∷ 0x050000000000 ∷ []
 unfolding session stocked listed
 handing = refl
 
@@ -133,7 +133,7 @@ pub comparing
     ∷ (0x011000060000000000000000 with 0)  -- 5: the destination is a source here, and empty
     ∷ (0x011000000000000000000000 with 0)  -- a slot with itself: never 6
     ∷ [])
-    ≡ 0x000000000000 ∷ 0x0000_ffffffff ∷ 0x000000000001 ∷ 0x050000000000 ∷ 0x000000000000 ∷ []
+    ≡ 0x000000000000 ∷ 0x0000FFFFFFFF ∷ 0x000000000001 ∷ 0x050000000000 ∷ 0x000000000000 ∷ []
 unfolding session stocked listed
 comparing = refl
 
@@ -147,7 +147,7 @@ pub pushing
     ∷ (0x010702070000000000000000 with 1)
     ∷ (0x010601070000000000000007 with 1)
     ∷ [])
-    ≡ 0x000100000000 ∷ 0x000200000000 ∷ 0x000200000000 ∷ 0x000000000000 ∷ 0x0_a0000000000 ∷ 0x0_a0000000000 ∷ []
+    ≡ 0x000100000000 ∷ 0x000200000000 ∷ 0x000200000000 ∷ 0x000000000000 ∷ 0x0A0000000000 ∷ 0x0A0000000000 ∷ []
 unfolding session stocked listed
 pushing = refl
 
@@ -155,7 +155,7 @@ pushing = refl
 pub just_enough
     : session (stocked (listed 1 (1 ∷ 2 ∷ 3 ∷ 4 ∷ 5 ∷ []) ∷ []))
     ((0x010500010000000400000007 with 3) ∷ (0x010500020000000400000007 with 2) ∷ (0x010401000000000400000000 with 0) ∷ (0x010400000000000400000000 with 0) ∷ [])
-    ≡ 0x000300000000 ∷ 0x0_a0000000000 ∷ 0x000000000007 ∷ 0x000000000005 ∷ []
+    ≡ 0x000300000000 ∷ 0x0A0000000000 ∷ 0x000000000007 ∷ 0x000000000005 ∷ []
 unfolding session stocked listed
 just_enough = refl
 

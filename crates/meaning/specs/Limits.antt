@@ -124,22 +124,22 @@ abbrev pub NEXT : ℕ
 NEXT = 0x09
 
 abbrev pub NEXT-BACK : ℕ
-NEXT-BACK = 0x0_a
+NEXT-BACK = 0x0A
 
 abbrev pub CLOSE-WALK : ℕ
-CLOSE-WALK = 0x0_b
+CLOSE-WALK = 0x0B
 
 abbrev pub HAND-OVER : ℕ
-HAND-OVER = 0x0_c
+HAND-OVER = 0x0C
 
 abbrev pub FREE-NODES : ℕ
-FREE-NODES = 0x0_d
+FREE-NODES = 0x0D
 
 abbrev pub FIRST : ℕ
-FIRST = 0x0_e
+FIRST = 0x0E
 
 abbrev pub LAST : ℕ
-LAST = 0x0_f
+LAST = 0x0F
 
 abbrev pub COMPARE : ℕ
 COMPARE = 0x10

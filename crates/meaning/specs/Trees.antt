@@ -1,5 +1,5 @@
 -- "Shape of a version", in nodes: which nodes are a version of a given length, and where its elements stand.
-use Rattle.std.specs.Prelude.{◌≡◌, List, ℕ, zero, suc, ◌+◌, ◌-◌, ◌*◌, ◌^◌, ◌≤◌, ◌<◌, min, length}
+use Rattle.std.specs.Prelude.{◌≡◌, List, ℕ, zero, suc, ◌+◌, ◌-◌, ◌*◌, ◌^◌, ◌≤◌, ◌<◌, min}
 use Rattle.meaning.specs.Limits.{LEAF, BRANCH}
 use Rattle.meaning.specs.Counting.{rows}
 use Rattle.meaning.specs.Lent.{Nodes, kind_of, used_of, cell_of, VersionRecord}

@@ -1,4 +1,6 @@
 // Frames of one kind in a row, answered by loops that look nothing up again: gets from one slot, and steps of one walk.
+#![tactic(auto)]
+
 mod leaf;
 
 ghost use Rattle.std.specs.Prelude.{◌≡◌, Bool, ◌+◌, ◌*◌, ◌/◌, ◌^◌, ◌<◌, eqb};

@@ -1,4 +1,6 @@
 // One frame on the records that it names: the checks, then the call.
+#![tactic(auto)]
+
 ghost use Rattle.std.specs.Prelude.{◌≡◌, Bool, cond, ◌&&◌, ◌+◌, ◌*◌, ◌%◌, ◌<◌, ltb};
 ghost use Rattle.meaning.specs.Limits.{parties, party_slots, version_count};
 ghost use Rattle.meaning.specs.Lent.{empty_record};

@@ -1,0 +1,21 @@
+use mathlib.Core.Path.{◌≡◌, refl, ap, ◌∙◌}
+use Prim.Native.Nat.{ℕ, ◌-◌}
+use native.Mathlib.Omega.{arith}
+use lib.ListN.{length}
+use Rattle.lookup.specs.Lookup.{leaf_in, element_in}
+use Rattle.lookup.proofs.Found.{element-found}
+use Rattle.requests.specs.Requests.{frame_of}
+use Rattle.repeats.specs.InARow.{InARow, is_get, after_gets}
+use Rattle.repeats.proofs.Repeating.{row-begins, row-goes-on, row-stops, row-over, gets-begin, gets-go-on}
+use mathlib.Core.Bool.{not}
+use Rattle.repeats.proofs.gets.Given as goal
+
+abbrev pub invariant-loop-j : goal.invariant-loop-j
+invariant-loop-j l =
+    (InARow (is_get l.party l.slot l.v.length) l.requests l.k l.count l.j)
+    × (l.room ≡ after_gets l.cells l.v l.requests l.initial.room l.k (l.j - l.k))
+    × (length l.room ≡ length l.initial.room)
+    × (l.leaf.0 ≡ leaf_in l.cells l.v.bits l.h l.v.root l.before)
+
+abbrev pub decreases-loop-j : goal.decreases-loop-j
+decreases-loop-j l = l.count - l.j

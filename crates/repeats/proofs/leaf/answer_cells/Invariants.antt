@@ -1,0 +1,21 @@
+use mathlib.Core.Path.{◌≡◌, refl, ◌∙◌}
+use Prim.Native.Nat.{◌-◌, ◌≤◌}
+use native.Mathlib.Omega.{arith}
+use lib.ListN.{length}
+use Rattle.requests.specs.Requests.{frame_of}
+use Rattle.repeats.specs.InARow.{InARow, is_step, after_cells}
+use Rattle.repeats.proofs.Repeating.{row-begins, row-goes-on}
+use Rattle.repeats.proofs.Together.{cells-begin, cells-go-on, within-before}
+use mathlib.Core.Path.{ap}
+use mathlib.Core.Bool.{not}
+use Rattle.repeats.proofs.leaf.answer_cells.Given as goal
+
+abbrev pub invariant-loop-j : goal.invariant-loop-j
+invariant-loop-j l =
+    (InARow (is_step l.party l.operation l.walk) l.requests l.k l.count l.j)
+    × (l.room ≡ after_cells l.cells l.back l.s l.initial.room l.k (l.j - l.k))
+    × (length l.room ≡ length l.initial.room)
+    × (l.j ≤ l.end)
+
+abbrev pub decreases-loop-j : goal.decreases-loop-j
+decreases-loop-j l = l.end - l.j
