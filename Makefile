@@ -9,7 +9,8 @@ CARGO_WITH_LIBRARY = JUMPERLOFT_HOST_LIBRARY='$(abspath $(BUILT_LIBRARY))' cargo
 WITH_ORIGINAL = $(if $(wildcard $(JUMPERLOFT_ORIGINAL)),--features original)
 DRIVE = $(CARGO_WITH_LIBRARY) run --quiet --release --offline -p drive $(WITH_ORIGINAL) --
 PROGRAM = target/bin/jumperloft
-BUILD_PROGRAM = mkdir -p target; rt check jumperloft >target/program.log 2>&1 || { tail -20 target/program.log >&2; exit 1; }
+# rt run proves, compiles and runs it, here on no input
+BUILD_PROGRAM = mkdir -p target/bin; (cd crates/jumperloft && rt run </dev/null) >target/program.log 2>&1 || { tail -20 target/program.log >&2; exit 1; }; cp crates/jumperloft/out/jumperloft $(PROGRAM)
 # what `make run` feeds the program: document 01's example, or another file of lines
 FRAMES ?= crates/jumperloft/stdin
 
@@ -20,16 +21,17 @@ BUILT_LIBRARY = $(or $(HOST_LIBRARY),target/staticlib/libhost.a)
 # what the long runs are made from; each prints it, and the same seed gives the same run
 SOAK_SEED ?= 2
 
-.PHONY: run test built built-by-rt built-with-library format kinds oracle drive program soak soak-audit bench-audit bench-program record
+.PHONY: run test built built-by-rt built-with-library kinds oracle drive program soak soak-audit bench-audit bench-program record
 
 # prints the program's output alone
 run:
 	@$(BUILD_PROGRAM)
 	@$(PROGRAM) <'$(FRAMES)'
 
-# rt ci removes what is built and proves all anew, so it comes first and the rest runs what it built; its last line is shown again at the end
-test: format
-	@log=$$(mktemp) && trap 'rm -f "$$log"' EXIT && rt ci 2>&1 | tee "$$log" && tail -n 1 "$$log" | grep -qx '[0-9]* passed, 0 failed' && \
+# first the gate of rt ci, in which no edit may be bad; its last line is shown again at the end
+test:
+	@log=$$(mktemp) && trap 'rm -f "$$log"' EXIT && { rt ci 2>&1; echo $$? >"$$log.status"; } | tee "$$log" && [ "$$(cat "$$log.status"; rm "$$log.status")" = 0 ] && \
+	tail -n 1 "$$log" | grep -qx '[0-9]* passed, 0 failed' && ! grep -q '^rt: ok.*, [1-9][0-9]* bad' "$$log" && \
 	$(MAKE) --no-print-directory built && tail -n 1 "$$log"
 
 # all that runs what is built, in two rows at a time; one has all that calls rt
@@ -41,9 +43,6 @@ built-by-rt:
 
 built-with-library:
 	@$(MAKE) --no-print-directory -j1 HOST_LIBRARY='$(BUILT_LIBRARY)' boundary c-tests fuzz-short examples snippet rust-binding plugins
-
-format:
-	@rt fmt --check
 
 # a slot number for a node number does not compile
 kinds:

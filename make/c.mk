@@ -22,7 +22,8 @@ MUTANT_JOBS ?= 2
 
 host-library:
 	@mkdir -p target
-	@if [ -z '$(HOST_LIBRARY)' ]; then rt staticlib host >target/host.log 2>&1 || { tail -20 target/host.log; exit 1; }; fi
+	@if [ -z '$(HOST_LIBRARY)' ]; then (cd crates/host_c && rt lib) >target/host.log 2>&1 || { tail -20 target/host.log; exit 1; }; \
+	mkdir -p target/staticlib && cp crates/host_c/out/libhost_c.a target/staticlib/libhost.a; fi
 
 install: host-library
 	@sh make/install.sh '$(BUILT_LIBRARY)' '$(subst ','\'',$(PREFIX))' '$(subst ','\'',$(DESTDIR))'

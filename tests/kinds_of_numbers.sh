@@ -8,10 +8,10 @@ for crate in meaning limits shape records lookup; do cp -R "crates/$crate" "$cop
 grep -E '^(meaning|limits|shape|records|lookup):' crates.txt >"$copy/crates.txt"
 
 mixed="$copy/crates/lookup/src/lib.rt"
-sed -i 's/^use records::NodeNo;/use records::NodeNo;\nuse records::SlotNo;/; s/NodeNo(v\.root)/SlotNo(v.root)/' "$mixed"
+sed -i 's/^use records::{NodeNo, Version};/use records::{NodeNo, SlotNo, Version};/; s/NodeNo(v\.root)/SlotNo(v.root)/' "$mixed"
 grep -q 'SlotNo(v\.root)' "$mixed" || { echo 'kinds_of_numbers: the text to mix is not in crates/lookup'; exit 1; }
 
-said=$( (cd "$copy" && rt check lookup) 2>&1)
+said=$( (cd "$copy/crates/lookup" && rt check) 2>&1)
 if printf '%s\n' "$said" | grep -q 'error\[mismatched-types\].*NodeNo.*SlotNo'; then
     echo 'kinds_of_numbers: a slot number for a node number does not compile'
 else

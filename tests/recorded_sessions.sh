@@ -2,7 +2,7 @@
 # The program's answers to the recorded sessions, byte for byte; needs no Rust.
 cd "$(dirname "$0")/.." || exit 1
 program=target/bin/jumperloft
-[ -x "$program" ] || { echo "recorded_sessions: FAILED, there is no $program; rt check jumperloft makes it"; exit 1; }
+[ -x "$program" ] || { echo "recorded_sessions: FAILED, there is no $program; make program makes it"; exit 1; }
 answers=$(mktemp) || exit 1
 trap 'rm -f "$answers"' EXIT
 

@@ -61,7 +61,7 @@ fn leave_out(place: &Path, copy: &Path) {
     // one of an earlier build would be linked in its place
     let _ = fs::remove_file(copy);
     println!(
-        "cargo::warning=Nothing can be linked, as there is no static library of Jumperloft at {}. Write it by `rt staticlib host` in \
+        "cargo::warning=Nothing can be linked, as there is no static library of Jumperloft at {}. Write it by `make host-library` in \
          the repository, or set {VARIABLE} to the archive, or to a folder with {}.",
         place.display(),
         ARCHIVES.join(" or ")

@@ -15,7 +15,7 @@ fn main() {
     };
     if !library.is_file() {
         println!(
-            "cargo::warning=The static library is not at {}; write it by `rt staticlib host`, or set {VARIABLE} to where it is.",
+            "cargo::warning=The static library is not at {}; write it by `make host-library`, or set {VARIABLE} to where it is.",
             library.display()
         );
     }

@@ -1,4 +1,4 @@
-// What a host and its plug-ins link: the calls, over what a host lends.
+// The calls of a host and its plug-ins, over what a host lends. C links them by `host_c`.
 ghost use Rattle.std.specs.Prelude.{◌≡◌};
 ghost use Rattle.lending.specs.Lending.{RightSizes};
 ghost use Rattle.audit_reads.specs.Slices.{lent_from};
@@ -80,16 +80,14 @@ fn form_table(
 }
 
 // How many elements each slice of a state of so many nodes has; all 0 where there is no such state.
-#[unsafe(no_mangle)]
-pub extern "C" fn jumperloft1_sizes(nodes: usize) -> Sizes
+pub fn jumperloft1_sizes(nodes: usize) -> Sizes
     ensures { RightSizes nodes result }
 {
     lending::sizes_of(nodes)
 }
 
 // A fresh state in what is lent.
-#[unsafe(no_mangle)]
-pub extern "C" fn jumperloft1_form(
+pub fn jumperloft1_form(
     kinds: &mut [u8],
     used: &mut [u8],
     counts: &mut [u32],
@@ -168,8 +166,7 @@ fn batch_table(
 }
 
 // The frames of the requests, each answered at its 6 bytes of the room. A batch that is refused writes nothing.
-#[unsafe(no_mangle)]
-pub extern "C" fn jumperloft1_batch(
+pub fn jumperloft1_batch(
     kinds: &mut [u8],
     used: &mut [u8],
     counts: &mut [u32],

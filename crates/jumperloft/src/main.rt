@@ -8,9 +8,9 @@ ghost use Rattle.serving.specs.States.{Runs};
 
 use conversation::PIECE;
 use hexadecimal::{LINE_SIZE, PRINTED_SIZE};
-use libc::{STDIN_FILENO, STDOUT_FILENO};
 use limits::{ALL_NUMBERS, NODE_CELLS, PLACES, PROGRAM_NODES, VERSIONS};
 use records::Version;
+use std::io::{Read, Write};
 
 // The cells of the program's nodes.
 const CELLS: usize = NODE_CELLS * PROGRAM_NODES;
@@ -21,8 +21,24 @@ const OUT: usize = PRINTED_SIZE * PIECE;
 // The answer to a last piece without line feed.
 const LAST_ANSWER: [u8; PRINTED_SIZE] = *b"0E0000000000\n";
 
+// How many bytes of input were read, 0 at its end and where it can't be read.
+fn read_piece(rt: &HostRuntime, piece: &mut [u8; PIECE]) -> usize
+    ensures { result ≤ piece_size }
+{
+    match rt.stdin().read(piece) {
+        Ok(n) => n,
+        Err(_) => 0,
+    }
+}
+
+// Whether all of the text was written.
+fn write_text(rt: &HostRuntime, text: &[u8]) -> bool {
+    rt.stdout().write_all(text).is_ok()
+}
+
 // Answers the lines of each read as they come to an end. A proved loop has to end, so this one counts down from a number of reads that no run uses up.
 fn answer_all(
+    rt: &HostRuntime,
     kinds: &mut [u8; PROGRAM_NODES],
     used: &mut [u8; PROGRAM_NODES],
     counts: &mut [u32; PROGRAM_NODES],
@@ -43,8 +59,7 @@ fn answer_all(
     let mut len = 0;
     let mut turns = u64::MAX;
     while turns > 0 {
-        let got = libc::read(STDIN_FILENO, &mut piece);
-        let n = io::count(got, &piece);
+        let n = read_piece(rt, &mut piece);
         if n == 0 {
             break;
         }
@@ -69,18 +84,18 @@ fn answer_all(
         free = t.free;
         len = t.len;
         let written = t.written;
-        if !io::write_all(STDOUT_FILENO, &out[..written]) {
+        if !write_text(rt, &out[..written]) {
             return;
         }
         turns -= 1;
     }
     if len > 0 {
         let text = LAST_ANSWER;
-        io::write_all(STDOUT_FILENO, &text);
+        write_text(rt, &text);
     }
 }
 
-fn main() {
+fn main(rt: HostRuntime) {
     let mut kinds = [0u8; PROGRAM_NODES];
     let mut used = [0u8; PROGRAM_NODES];
     let mut counts = [0u32; PROGRAM_NODES];
@@ -103,6 +118,7 @@ fn main() {
     );
     let versions = formed.versions;
     answer_all(
+        &rt,
         &mut kinds,
         &mut used,
         &mut counts,

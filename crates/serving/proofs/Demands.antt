@@ -21,7 +21,7 @@ use Rattle.meaning.specs.Checks.{checks, first_of, seen_by}
 use Rattle.meaning.specs.Serve.{Call, run}
 use Rattle.meaning.specs.Batch.{batch_checks, calls_in, outcome, batch}
 use Rattle.meaning.proofs.Answers as answers
-use Rattle.ledger.proofs.Reaching.{free_nodes, free-rest}
+use Rattle.ledger.proofs.Reaching.{free-nodes, free-rest}
 use Rattle.upkeep.proofs.Doors.{well-formed-runs, running-formed}
 use Rattle.frames.specs.Run.{Run}
 use Rattle.frames.specs.Serve.{fresh_in, serve}
@@ -39,7 +39,7 @@ runs-formed r k = running-formed r.store r.versions r.walks k
 
 -- the number of free nodes that is carried is the number of free nodes
 pub free-carried : (r : Run) → Runs r → free_nodes r.store.nodes ≡ r.store.free
-free-carried r k = free_nodes k.kept
+free-carried r k = free-nodes k.kept
 
 -- so nothing is lost between two frames
 pub run-again : (r : Run) → Runs r → run_in (lent_in r) ≡ r

@@ -7,43 +7,37 @@ ghost use Rattle.meaning.specs.WellFormed.{LegalBits};
 ghost use Rattle.shape.specs.Legal.{Legal};
 
 use shape::vector_utils;
+use std::io;
+use std::io::Print;
 
-fn show(n: u32, end: u8) {
-    io::print_decimal(1, n as u64);
-    let ends = [end];
-    io::write_all(1, &ends);
-}
-
-fn show_root(bits: u32, length: u32)
+fn show_root(rt: &impl Print, bits: u32, length: u32) -> io::Result<()>
     requires { Legal bits length }
 {
-    show(bits, b' ');
-    show(length, b' ');
-    show(shape::height(bits, length), b' ');
-    show(shape::root_max_capacity(bits, length), b' ');
-    show(shape::is_root_full(bits, length) as u32, b'\n');
+    let height = shape::height(bits, length);
+    let capacity = shape::root_max_capacity(bits, length);
+    let full = shape::is_root_full(bits, length) as u32;
+    println!(rt; "{bits} {length} {height} {capacity} {full}")
 }
 
-fn show_bucket(bits: u32, index: u32, height: u32)
+fn show_bucket(rt: &impl Print, bits: u32, index: u32, height: u32) -> io::Result<()>
     requires legal { LegalBits bits }
     requires shift { height * bits < word_width }
 {
-    show(bits, b' ');
-    show(index, b' ');
-    show(height, b' ');
-    show(vector_utils::bucket(bits, index, height), b'\n');
+    let bucket = vector_utils::bucket(bits, index, height);
+    println!(rt; "{bits} {index} {height} {bucket}")
 }
 
-fn main() {
-    show_root(5, 32768);
-    show_root(5, 1025);
-    show_root(1, 32768);
-    show_root(1, 32767);
-    show_bucket(5, 32767, 2);
-    show_bucket(5, 1057, 2);
-    show_bucket(5, 1057, 1);
-    show_bucket(5, 1058, 0);
-    show_bucket(5, 4294967295, 6);
-    show_bucket(1, 16384, 14);
-    show_bucket(1, 16384, 13);
+fn main(rt: HostRuntime) -> io::Result<()> {
+    show_root(&rt, 5, 32768)?;
+    show_root(&rt, 5, 1025)?;
+    show_root(&rt, 1, 32768)?;
+    show_root(&rt, 1, 32767)?;
+    show_bucket(&rt, 5, 32767, 2)?;
+    show_bucket(&rt, 5, 1057, 2)?;
+    show_bucket(&rt, 5, 1057, 1)?;
+    show_bucket(&rt, 5, 1058, 0)?;
+    show_bucket(&rt, 5, 4294967295, 6)?;
+    show_bucket(&rt, 1, 16384, 14)?;
+    show_bucket(&rt, 1, 16384, 13)?;
+    Ok(())
 }

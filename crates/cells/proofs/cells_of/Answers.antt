@@ -1,10 +1,7 @@
 use borrow.Author.Rules.{rules}
 use Rattle.cells.specs.Cells.{cells_of}
 use Rattle.cells.proofs.Copy.{copy-step-from, copy-all}
-use mathlib.Core.Path.{◌≡◌}
-use Prim.Native.Nat.{◌*◌, ◌-◌, ◌≤◌}
 use native.Mathlib.Omega.{arith}
-use lib.ListN.{length, take, drop}
 use Rattle.cells.proofs.cells_of.Goals as goal
 
 pub loop-i-preserved : goal.loop-i-preserved

@@ -1,9 +1,5 @@
-use borrow.Author.Rules.{rules}
-use Rattle.cells.specs.Cells.{cells_of}
-use Rattle.cells.proofs.Copy.{copy-step-from, copy-all}
 use mathlib.Core.Path.{◌≡◌}
 use Prim.Native.Nat.{◌*◌, ◌-◌, ◌≤◌}
-use native.Mathlib.Omega.{arith}
 use lib.ListN.{length, take, drop}
 use Rattle.cells.proofs.cells_of.Given as goal
 

@@ -1,4 +1,3 @@
-use borrow.Author.Rules.{rules}
 use Prim.Native.Nat.{◌*◌}
 use Rattle.cells.specs.Cells.{put_cells}
 use Rattle.cells.proofs.Copy.{part-put}

@@ -1,9 +1,7 @@
 use borrow.Author.Rules.{rules}
 use Rattle.cells.proofs.Copy.{copy_step, copy-all}
-use mathlib.Core.Path.{◌≡◌, ◌∙◌}
-use Prim.Native.Nat.{◌-◌, ◌≤◌}
+use mathlib.Core.Path.{◌∙◌}
 use native.Mathlib.Omega.{arith}
-use lib.ListN.{length, take}
 use lib.Seq.{take_all}
 use Rattle.cells.proofs.write_cells.Goals as goal
 

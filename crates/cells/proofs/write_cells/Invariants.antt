@@ -1,10 +1,6 @@
-use borrow.Author.Rules.{rules}
-use Rattle.cells.proofs.Copy.{copy_step, copy-all}
-use mathlib.Core.Path.{◌≡◌, ◌∙◌}
+use mathlib.Core.Path.{◌≡◌}
 use Prim.Native.Nat.{◌-◌, ◌≤◌}
-use native.Mathlib.Omega.{arith}
 use lib.ListN.{length, take}
-use lib.Seq.{take_all}
 use Rattle.cells.proofs.write_cells.Given as goal
 
 abbrev pub invariant-loop-i : goal.invariant-loop-i

@@ -1,6 +1,5 @@
 use native.Mathlib.Omega.{arith}
 use lib.Count.{leading_le}
-use borrow.Author.Rules.{rules}
 use Rattle.shape.proofs.Computed.{written-least, rounded-fits, rounded-least, height-computed, height-least, height-bounded}
 use Rattle.shape.proofs.height.Goals as goal
 

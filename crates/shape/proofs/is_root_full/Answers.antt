@@ -1,6 +1,5 @@
 use mathlib.Core.Path.{ap}
 use lib.Dec.{eqb}
-use borrow.Author.Rules.{rules}
 use Rattle.meaning.specs.Shape.{is_root_full}
 use Rattle.shape.proofs.is_root_full.Goals as goal
 

@@ -1,5 +1,4 @@
 use native.Mathlib.Omega.{arith}
-use borrow.Author.Rules.{rules}
 use Rattle.shape.proofs.Computed.{capacity-computed}
 use Rattle.shape.proofs.root_max_capacity.Goals as goal
 

@@ -1,4 +1,3 @@
-use borrow.Author.Rules.{rules}
 use Rattle.shape.proofs.Computed.{bucket-computed}
 use Rattle.shape.proofs.vector_utils.bucket.Goals as goal
 

@@ -1,5 +1,4 @@
 use native.Mathlib.Omega.{arith}
-use borrow.Author.Rules.{rules}
 use Rattle.meaning.specs.Shape.{degree}
 use Rattle.shape.proofs.Powers.{one-shifts, degree-least, degree-most}
 use Rattle.shape.proofs.vector_utils.degree.Goals as goal
