@@ -1,4 +1,6 @@
 // A piece of the program's input: its lines read, their frames run, the answers printed.
+#![tactic(auto)]
+
 ghost use Rattle.records.specs.Records.{records_of};
 ghost use Rattle.store.specs.Store.{store_of};
 ghost use Rattle.walk.specs.Walk.{slices};

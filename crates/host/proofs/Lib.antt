@@ -1,5 +1,4 @@
--- The types that the exported calls hand on, and what a table copied out and back makes of their promises.
-pub mod Shapes
+-- What a table copied out and back makes of their promises.
 pub mod Settled
 pub mod Forming
 pub mod Batching

@@ -1,4 +1,6 @@
 // The calls of a host and its plug-ins, over what a host lends. C links them by `host_c`.
+#![tactic(auto)]
+
 ghost use Rattle.std.specs.Prelude.{◌≡◌};
 ghost use Rattle.lending.specs.Lending.{RightSizes};
 ghost use Rattle.audit_reads.specs.Slices.{lent_from};

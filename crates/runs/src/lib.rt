@@ -1,4 +1,6 @@
 // Frames in order on a state that runs, each answered at its 6 bytes.
+#![tactic(auto)]
+
 ghost use Rattle.std.specs.Prelude.{◌≡◌};
 ghost use Rattle.records.specs.Records.{record_of, records_of};
 ghost use Rattle.store.specs.Store.{store_of};

@@ -1,0 +1,23 @@
+use mathlib.Core.Path.{◌≡◌, refl, sym, ap, ◌∙◌}
+use Prim.Native.Nat.{ℕ, ◌-◌, ◌*◌}
+use native.Mathlib.Omega.{arith}
+use lib.ListN.{set}
+use Rattle.meaning.specs.Limits.{node_cells}
+use Rattle.records.specs.Records.{record_of, records_of}
+use Rattle.store.specs.Store.{store_of}
+use Rattle.walk.specs.Walk.{slices}
+use Rattle.requests.specs.Requests.{frame_of}
+use Rattle.runs.specs.Runs.{run_of, Progress, progress, Going}
+use Rattle.runs.proofs.Stepping.{record-there, can-turn, turn-steps, begins, goes_on, ends}
+use Rattle.runs.proofs.Repeated.{repeatable, goes-far}
+use borrow.Author.Rules.{rules}
+use Rattle.runs.proofs.run.Given as goal
+
+abbrev pub invariant-loop-k : goal.invariant-loop-k
+invariant-loop-k l =
+    Going l.requests l.count
+    (progress (run_of (store_of l.initial.kinds l.initial.used l.initial.counts l.initial.cells l.initial.order l.initial.left) (records_of l.initial.table) (slices l.initial.numbers l.initial.nodes l.initial.indices)) l.initial.room)
+    (progress (run_of (store_of l.kinds l.used l.counts l.cells l.order l.left) (records_of l.table) (slices l.numbers l.nodes l.indices)) l.room) l.k
+
+abbrev pub decreases-loop-k : goal.decreases-loop-k
+decreases-loop-k l = l.count - l.k
