@@ -1,4 +1,7 @@
 // Lines of hexadecimal in, lines of hexadecimal out, over a fresh state of 256 nodes.
+#![tactic(auto)]
+
+ghost use Rattle.std.specs.Prelude.{◌≤◌};
 ghost use Rattle.meaning.specs.Limits.{program_nodes};
 ghost use Rattle.records.specs.Records.{records_of};
 ghost use Rattle.store.specs.Store.{store_of};
@@ -23,7 +26,7 @@ const LAST_ANSWER: [u8; PRINTED_SIZE] = *b"0E0000000000\n";
 
 // How many bytes of input were read, 0 at its end and where it can't be read.
 fn read_piece(rt: &HostRuntime, piece: &mut [u8; PIECE]) -> usize
-    ensures { result ≤ piece_size }
+    ensures { result ≤ PIECE }
 {
     match rt.stdin().read(piece) {
         Ok(n) => n,

@@ -8,34 +8,26 @@ use Rattle.audit_compare.proofs.row_spare_ok.Goals as goal
 
 -- `audit_compare::row_spare_ok` meets its contract.
 
--- src/lib.rt:52:5
 pub loop-i-init : goal.loop-i-init
 loop-i-init c = look-begins _ (λ (j : ℕ). get_or c.args.cells.now (c.args.at + j) 0)
 
--- src/lib.rt:53:26
 pub overflow_add-ok : goal.overflow_add-ok
 overflow_add-ok c = omega (arith, c.loop-i-test.true, c.requires, c.well_formed)
 
--- src/lib.rt:53:20
 pub offset_bounds-cells-at : goal.offset_bounds-cells-at
 offset_bounds-cells-at c = omega (arith, c.loop-i-test.true, c.requires, c.well_formed)
 
--- src/lib.rt:53:20
 pub bounds-cells-at : goal.bounds-cells-at
 bounds-cells-at c = omega (arith, c.loop-i-test.true, c.requires)
 
--- src/lib.rt:54:9
 pub overflow_add-i : goal.overflow_add-i
 overflow_add-i c = omega (arith, c.loop-i-test.true)
 
--- src/lib.rt:52:5
 pub loop-i-smaller : goal.loop-i-smaller
 loop-i-smaller c = omega (arith, c.loop-i-test.true)
 
--- src/lib.rt:52:5
 pub loop-i-preserved : goal.loop-i-preserved
 loop-i-preserved c = look-goes-on _ (λ (j : ℕ). get_or c.args.cells.now (c.args.at + j) 0) c.loop-i.i _ c.loop-i.ok c.loop-i.invariant c.loop-i-test.true refl
 
--- src/lib.rt:46:1
 pub returns : goal.returns
 returns c = look-ends _ (λ (j : ℕ). get_or c.args.cells.now (c.args.at + j) 0) c.loop-i.i c.loop-i.ok c.loop-i.invariant c.loop-i-test.false

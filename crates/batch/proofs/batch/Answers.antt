@@ -5,22 +5,17 @@ use mathlib.Core.Path.{ap}
 use mathlib.Core.Bool.{not}
 use Rattle.batch.proofs.batch.Goals as goal
 
--- src/lib.rt:117:9
 pub returns-then-asked-ne0 : goal.returns-then-asked-ne0
 returns-then-asked-ne0 c = reported _ _ _ _ _ _ _ _ _ _ _ _ c.args.versions _ _ _ c.report.ensures (ragged _ _ _ c.if-asked-ne0.true)
 
--- src/lib.rt:121:9
 pub returns-then-room-answer_place : goal.returns-then-room-answer_place
 returns-then-room-answer_place c = reported _ _ _ _ _ _ _ _ _ _ _ _ c.args.versions _ _ _ c.report-then-room-answer_place.ensures (no_room _ _ _ c.if-asked-ne0.false (rw c.answer_place.ensures at c.if-room-answer_place.true))
 
--- src/lib.rt:135:9
 pub returns-then-not-judged : goal.returns-then-not-judged
 returns-then-not-judged c = reported _ _ _ _ _ _ _ _ _ _ _ _ c.args.versions _ _ _ c.report-then-not-judged.ensures (ill-formed _ _ _ c.if-asked-ne0.false (rw c.answer_place.ensures at c.if-room-answer_place.false) _ _ c.audit-judged.ensures c.if-not-judged.true)
 
--- src/lib.rt:137:9
 pub serve-r-requires : goal.serve-r-requires
 serve-r-requires c = can-run _ _ _ c.if-asked-ne0.false (rw c.answer_place.ensures at c.if-room-answer_place.false) _ _ c.audit-judged.ensures c.if-not-judged.false (omega arith)
 
--- src/lib.rt:96:1
 pub returns : goal.returns
 returns c = reported _ _ _ _ _ _ _ _ _ _ _ _ c.serve-r.result.versions _ _ _ c.report-2.ensures (served _ _ _ c.if-asked-ne0.false (rw c.answer_place.ensures at c.if-room-answer_place.false) _ _ c.audit-judged.ensures c.if-not-judged.false _ _ c.serve-r.ensures)

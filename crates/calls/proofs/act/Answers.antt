@@ -4,18 +4,14 @@ use Rattle.calls.proofs.Acting.{act-walks, act-stores}
 use borrow.Author.Rules.{rules}
 use Rattle.calls.proofs.act.Goals as goal
 
--- src/lib.rt:77:9
 pub act_on_walk-requires : goal.act_on_walk-requires
 act_on_walk-requires c = c.requires.walks c.if-walks.true
 
--- src/lib.rt:77:9
 pub returns-then-walks : goal.returns-then-walks
 returns-then-walks c = act-walks _ _ (frame_of c.args.f) (record_of c.args.v) (record_of c.args.w) (record_of c.args.old) _ c.if-walks.true c.act_on_walk.ensures
 
--- src/lib.rt:92:5
 pub act_on_store-requires : goal.act_on_store-requires
 act_on_store-requires c = c.requires.sources
 
--- src/lib.rt:51:1
 pub returns : goal.returns
 returns c = act-stores _ _ (frame_of c.args.f) (record_of c.args.v) (record_of c.args.w) (record_of c.args.old) _ c.if-walks.false c.act_on_store.ensures

@@ -4,26 +4,20 @@ use Rattle.calls.proofs.Acting.{edit-sourced, release-sourced, edit-stores, rele
 use borrow.Author.Rules.{rules}
 use Rattle.calls.proofs.act_on_store.Goals as goal
 
--- src/lib.rt:43:9
 pub edit-requires : goal.edit-requires
 edit-requires c = record { steady = c.requires.steady; able = λ d. c.requires.source (edit-sourced c.args.f.operation c.if-edits.true d) }
 
--- src/lib.rt:43:9
 pub returns-then-edits : goal.returns-then-edits
 returns-then-edits c = edit-stores _ (frame_of c.args.f) c.args.v c.args.w c.args.old _ c.if-edits.true c.edit.ensures
 
--- src/lib.rt:46:9
 pub release-requires : goal.release-requires
 release-requires c = c.requires.source (release-sourced c.args.f.operation c.if-f-eq-RELEASE.true)
 
--- src/lib.rt:46:9
 pub returns-then-f-eq-RELEASE : goal.returns-then-f-eq-RELEASE
 returns-then-f-eq-RELEASE c = release-stores _ (frame_of c.args.f) c.args.v c.args.w c.args.old c.if-edits.false _ c.if-f-eq-RELEASE.true c.release.ensures
 
--- src/lib.rt:48:5
 pub read-requires : goal.read-requires
 read-requires c = record { few = c.requires.few; legal = λ e. (c.requires.source e).legal; other = c.requires.other }
 
--- src/lib.rt:20:1
 pub returns : goal.returns
 returns c = read-stores _ (frame_of c.args.f) c.args.v c.args.w c.args.old c.if-edits.false _ c.if-f-eq-RELEASE.false c.read.ensures

@@ -3,10 +3,8 @@ use Rattle.edits.proofs.Editing.{releases}
 use borrow.Author.Rules.{rules}
 use Rattle.edits.proofs.release.Goals as goal
 
--- src/lib.rt:97:9
 pub release-left-requires : goal.release-left-requires
 release-left-requires c = c.requires.release
 
--- src/lib.rt:84:1
 pub returns : goal.returns
 returns c = releases _ (record_of c.args.v) _ _ _ _ _ _ _ _ c.release-left.ensures c.empty.ensures c.answered.ensures

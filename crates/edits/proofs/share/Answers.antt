@@ -3,6 +3,5 @@ use Rattle.edits.proofs.Editing.{shares}
 use borrow.Author.Rules.{rules}
 use Rattle.edits.proofs.share.Goals as goal
 
--- src/lib.rt:47:1
 pub returns : goal.returns
 returns c = shares _ _ _ (record_of c.args.v) _ _ c.clone-shared.ensures c.answered.ensures

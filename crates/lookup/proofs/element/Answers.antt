@@ -2,6 +2,5 @@ use borrow.Author.Rules.{rules}
 use Rattle.lookup.proofs.Found.{element-found}
 use Rattle.lookup.proofs.element.Goals as goal
 
--- src/lib.rt:41:1
 pub returns : goal.returns
 returns c = element-found c.args.cells.now c.args.bits c.args.index _ _ _ _ _ c.leaf-n.ensures c.bucket-b.ensures.value c.cell_at.ensures

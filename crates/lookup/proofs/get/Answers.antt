@@ -2,13 +2,11 @@ use Rattle.lookup.proofs.Found.{got-found, got-nothing}
 use borrow.Author.Rules.{rules}
 use Rattle.lookup.proofs.get.Goals as goal
 
--- src/lib.rt:48:9
 pub returns-then-index-v : goal.returns-then-index-v
 returns-then-index-v c =
     let a = c.args in
     got-found a.cells.now a.v a.index _ c.if-index-v.true (rw c.height-h.ensures.value at c.element.ensures)
 
--- src/lib.rt:42:1
 pub returns : goal.returns
 returns c =
     let a = c.args in

@@ -4,7 +4,6 @@ use Rattle.lookup.proofs.Found.{got-nothing}
 use borrow.Author.Rules.{rules}
 use Rattle.lookup.proofs.last.Goals as goal
 
--- src/lib.rt:65:9
 pub returns-then-v-eq0 : goal.returns-then-v-eq0
 returns-then-v-eq0 c =
     let a = c.args in

@@ -3,6 +3,5 @@ use Rattle.requests.specs.Requests.{frame_of}
 use Rattle.refusals.proofs.Refusing.{taker-is}
 use Rattle.refusals.proofs.taker.Goals as goal
 
--- src/lib.rt:117:1
 pub returns : goal.returns
 returns c = taker-is (frame_of c.args.f) _ c.owner.ensures

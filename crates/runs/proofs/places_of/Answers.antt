@@ -3,6 +3,5 @@ use Rattle.runs.proofs.Stepping.{placed}
 use borrow.Author.Rules.{rules}
 use Rattle.runs.proofs.places_of.Goals as goal
 
--- src/lib.rt:31:1
 pub returns : goal.returns
 returns c = placed (frame_of c.args.f) _ _ _ _ _ c.giver.ensures c.taker.ensures c.slot_place-source.ensures.0 c.slot_place-target.ensures.0 c.changed_place.ensures c.slot_place-source.ensures.1 c.slot_place-target.ensures.1

@@ -1,6 +1,5 @@
 use borrow.Author.Rules.{rules}
 use Rattle.served.proofs.done.Goals as goal
 
--- src/lib.rt:59:1
 pub returns : goal.returns
 returns c = cc c.low_byte.ensures

@@ -2,10 +2,8 @@ use Rattle.served.proofs.Answering.{got-is}
 use borrow.Author.Rules.{rules}
 use Rattle.served.proofs.of_got.Goals as goal
 
--- src/lib.rt:84:1
 pub returns-in-Element : goal.returns-in-Element
 returns-in-Element c = got-is _ _ _ _ _ c.in-Element.is c.answered.ensures
 
--- src/lib.rt:84:1
 pub returns-in-Nothing : goal.returns-in-Nothing
 returns-in-Nothing c = got-is _ _ _ _ _ c.in-Nothing.is c.refused.ensures

@@ -2,14 +2,11 @@ use Rattle.turns.proofs.Turning.{walk_inside, walk-opens}
 use borrow.Author.Rules.{rules}
 use Rattle.turns.proofs.is_open.Goals as goal
 
--- src/lib.rt:72:16
 pub bounds-numbers-n : goal.bounds-numbers-n
 bounds-numbers-n c = walk_inside _ _ c.if-there.true
 
--- src/lib.rt:72:9
 pub returns-then-there : goal.returns-then-there
 returns-then-there c = walk-opens c.args.numbers.now c.args.party c.args.walk c.if-there.true
 
--- src/lib.rt:66:1
 pub returns : goal.returns
 returns c = rw c.if-there.false

@@ -5,14 +5,11 @@ use Rattle.turns.proofs.Turning.{entry-is, turn-refuses, turn-acts}
 use borrow.Author.Rules.{rules}
 use Rattle.turns.proofs.serve.Goals as goal
 
--- src/lib.rt:102:9
 pub returns-then-number-ne-DONE : goal.returns-then-number-ne-DONE
 returns-then-number-ne-DONE c = turn-refuses _ (frame_of c.args.f) (record_of c.args.v) (record_of c.args.w) _ _ (entry-is _ (frame_of c.args.f) (record_of c.args.v) (record_of c.args.w) _ _ _ _ _ c.giver.ensures c.taker.ensures c.is_open-used_walk.ensures c.is_open-opened_walk.ensures c.refusal-number.ensures) _ _ c.if-number-ne-DONE.true c.refused.ensures
 
--- src/lib.rt:104:5
 pub act-requires : goal.act-requires
 act-requires c = c.requires (sym (entry-is _ (frame_of c.args.f) (record_of c.args.v) (record_of c.args.w) _ _ _ _ _ c.giver.ensures c.taker.ensures c.is_open-used_walk.ensures c.is_open-opened_walk.ensures c.refusal-number.ensures) ∙ c.if-number-ne-DONE.false)
 
--- src/lib.rt:77:1
 pub returns : goal.returns
 returns c = turn-acts _ (frame_of c.args.f) (record_of c.args.v) (record_of c.args.w) _ _ (entry-is _ (frame_of c.args.f) (record_of c.args.v) (record_of c.args.w) _ _ _ _ _ c.giver.ensures c.taker.ensures c.is_open-used_walk.ensures c.is_open-opened_walk.ensures c.refusal-number.ensures) _ _ c.if-number-ne-DONE.false c.act.ensures

@@ -8,6 +8,5 @@ use Rattle.vector.proofs.done.Goals as goal
 -- TODO cast-t8
 -- cast-t8 c = search rules
 
--- src/lib.rt:39:1
 pub returns : goal.returns
 returns c = made-done _ _ _ _ _ _ _ c.new_with_bits.ensures c.with_length-version.ensures

@@ -3,10 +3,8 @@ use Rattle.calls.proofs.Acting.{root-releases, closes}
 use borrow.Author.Rules.{rules}
 use Rattle.calls.proofs.walks.close.Goals as goal
 
--- src/walks.rt:70:9
 pub release-left-requires : goal.release-left-requires
 release-left-requires c = root-releases _ _ _ c.version-v.ensures c.requires.release
 
--- src/walks.rt:49:1
 pub returns : goal.returns
 returns c = closes _ _ _ _ _ _ _ _ _ c.version-v.ensures c.release-left.ensures c.close.ensures c.answered.ensures refl

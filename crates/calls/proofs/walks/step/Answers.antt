@@ -2,6 +2,5 @@ use Rattle.calls.proofs.Acting.{steps}
 use borrow.Author.Rules.{rules}
 use Rattle.calls.proofs.walks.step.Goals as goal
 
--- src/walks.rt:75:1
 pub returns : goal.returns
 returns c = steps _ _ _ _ _ _ c.take-g.ensures c.of_got.ensures

@@ -3,6 +3,5 @@ use native.Mathlib.Omega.{arith}
 use borrow.Author.Rules.{rules}
 use Rattle.calls.proofs.walks.walk_place.Goals as goal
 
--- src/walks.rt:26:1
 pub returns : goal.returns
 returns c = (refl, omega arith)
