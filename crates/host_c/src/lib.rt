@@ -38,7 +38,17 @@ pub extern "C" fn jumperloft1_form(
         (lent_from kinds.new used.new counts.new cells.now order.new versions.new
         walk_numbers.new walk_nodes.new walk_indices.new) result.number × (result.frames ≡ 0) }
 {
-    host::jumperloft1_form(kinds, used, counts, cells, order, versions, walk_numbers, walk_nodes, walk_indices)
+    host::jumperloft1_form(
+        kinds,
+        used,
+        counts,
+        cells,
+        order,
+        versions,
+        walk_numbers,
+        walk_nodes,
+        walk_indices,
+    )
 }
 
 // The frames of the requests, each answered at its 6 bytes of the room. A batch that is refused writes nothing.
@@ -63,5 +73,17 @@ pub extern "C" fn jumperloft1_batch(
         walk_numbers.new walk_nodes.new walk_indices.new)
         requests.now room.old room.new result.number result.frames }
 {
-    host::jumperloft1_batch(kinds, used, counts, cells, order, versions, walk_numbers, walk_nodes, walk_indices, requests, room)
+    host::jumperloft1_batch(
+        kinds,
+        used,
+        counts,
+        cells,
+        order,
+        versions,
+        walk_numbers,
+        walk_nodes,
+        walk_indices,
+        requests,
+        room,
+    )
 }
