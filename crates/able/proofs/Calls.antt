@@ -8,7 +8,7 @@ use native.Mathlib.Nat.{mod-le, le_trans}
 use native.Mathlib.Omega.{arith}
 use lib.Dec.{eqb}
 use lib.ListN.{length, length-append, length-map}
-use Rattle.meaning.specs.Limits.{node_cells, walk_levels, FREE, parties, party_walks}
+use Rattle.meaning.specs.Limits.{node_cells, walk_levels, free_kind, parties, party_walks}
 use Rattle.meaning.specs.Lent.{kind_of, VersionRecord, WalkSlices, WalkRecord, Lent, walk_record, walk_records}
 use Rattle.meaning.specs.Shape.{degree}
 use Rattle.meaning.specs.Trees.{height_of}
@@ -63,7 +63,7 @@ module _ (s : Store) (vs : List VersionRecord) (ws : WalkSlices) (r : Running s 
     legal : Legal v.bits v.length
     legal = record { bits = live.bits; length = live.length }
 
-    root-used : kind_of s.nodes v.root ≢ FREE
+    root-used : kind_of s.nodes v.root ≢ free_kind
     root-used = shaped-used s.nodes v.bits (height_of v) v.length v.root live.shape
 
     pub linkable : Linkable s.counts v.root

@@ -8,7 +8,7 @@ use native.Mathlib.Omega.{arith}
 use lib.Dec.{ltb}
 use lib.ListN.{length, get_or, take, length-take}
 use lib.Seq.{get_or-take}
-use Rattle.meaning.specs.Limits.{FREE}
+use Rattle.meaning.specs.Limits.{free_kind}
 use Rattle.meaning.specs.Lent.{Nodes, kind_of}
 use Rattle.meaning.specs.Shape.{degree, bucket}
 use Rattle.meaning.specs.Trees.{Shaped}
@@ -60,7 +60,7 @@ way-found s bits (suc h) there m n index legal z p le =
 
 -- ---- beyond a full root
 
-pub way-beyond : (s : Store) (bits h root index : ℕ) → LegalBits bits → Sized s → kind_of s.nodes root ≢ FREE → index ≡ degree bits ^ suc h → WayBeyond s bits h root index
+pub way-beyond : (s : Store) (bits h root index : ℕ) → LegalBits bits → Sized s → kind_of s.nodes root ≢ free_kind → index ≡ degree bits ^ suc h → WayBeyond s bits h root index
 way-beyond s bits h root index legal z f full =
     let begins : inside bits h index ≡ 0 = rw full (mod_self (degree bits ^ suc h)) in
     (used-inside s.nodes root f, way-found s bits h false 0 0 index legal z refl (omega arith))

@@ -6,7 +6,7 @@ use native.Mathlib.Nat.{lt_irrefl}
 use native.Mathlib.Decide.{ℕ_discrete}
 use native.Mathlib.Omega.{arith}
 use borrow.Author.Tests.{ltb-false, eq-eqb, ne_eqb}
-use Rattle.meaning.specs.Limits.{DONE, last_operation}
+use Rattle.meaning.specs.Limits.{done_number, last_operation}
 use Rattle.meaning.specs.Frames.{Frame}
 use Rattle.meaning.specs.Operations.{new, clone, release, set_at, push_back, drop_last, open_walk, next, next_back, close_walk, hand_over, operations, anyone, host_alone, uses, owner_or, op_of, giver, taker}
 use Rattle.meaning.specs.Checks.{entry_checks, first_of}
@@ -77,22 +77,22 @@ module _ (r : Run) (f : Frame) (k : Runs r) where
   abbrev entry : ℕ
   entry = first_of (entry_checks (op_of f) f (seen_in r f).standing)
 
-  passing : entry ≡ DONE → serve r f ≡ turned r f (turn r.store r.walks f (source_in r f) (target_in r f) (old_in r f))
+  passing : entry ≡ done_number → serve r f ≡ turned r f (turn r.store r.walks f (source_in r f) (target_in r f) (old_in r f))
   unfolding serve verdict turn
   passing e =
-      rw (entry-passes (op_of f) (supply_in r) f (seen_in r f) e, entry_seen, eq-eqb entry DONE e)
+      rw (entry-passes (op_of f) (supply_in r) f (seen_in r f) e, entry_seen, eq-eqb entry done_number e)
       (entered-turns r f k (entered (op_of f) f (seen_in r f).standing e))
 
-  refusing : entry ≢ DONE → serve r f ≡ turned r f (turn r.store r.walks f (source_in r f) (target_in r f) (old_in r f))
+  refusing : entry ≢ done_number → serve r f ≡ turned r f (turn r.store r.walks f (source_in r f) (target_in r f) (old_in r f))
   unfolding verdict turn
   refusing n =
       let number : verdict r f ≡ entry = entry-refuses (op_of f) (supply_in r) f (seen_in r f) n in
-      serve-refused r f (λ e. n (sym number ∙ e)) ∙ rw (entry_seen, ne_eqb entry DONE n, stays r f) (ap (λ (m : ℕ). (r, refused m)) number)
+      serve-refused r f (λ e. n (sym number ∙ e)) ∙ rw (entry_seen, ne_eqb entry done_number n, stays r f) (ap (λ (m : ℕ). (r, refused m)) number)
 
   -- what the model serves
   pub turn-serves : serve r f ≡ turned r f (turn r.store r.walks f (source_in r f) (target_in r f) (old_in r f))
-  turn-serves = pick (ℕ_discrete entry DONE)
+  turn-serves = pick (ℕ_discrete entry done_number)
     where
-      pick : Dec (entry ≡ DONE) → serve r f ≡ turned r f (turn r.store r.walks f (source_in r f) (target_in r f) (old_in r f))
+      pick : Dec (entry ≡ done_number) → serve r f ≡ turned r f (turn r.store r.walks f (source_in r f) (target_in r f) (old_in r f))
       pick (yes e) = passing e
       pick (no n) = refusing n

@@ -8,7 +8,7 @@ use native.Mathlib.Omega.{arith}
 use lib.Dec.{ltb, eqb}
 use lib.ListN.{get_or}
 use borrow.Author.Tests.{ne_eqb}
-use Rattle.meaning.specs.Limits.{parties, party_walks, OPEN-WALK, NEXT, NEXT-BACK, CLOSE-WALK, COMPARE}
+use Rattle.meaning.specs.Limits.{parties, party_walks, open_walk_code, next_code, next_back_code, close_walk_code, compare_code}
 use Rattle.meaning.specs.Lent.{VersionRecord, closed_record, walk_record}
 use Rattle.meaning.specs.WellFormed.{Live, Open}
 use Rattle.meaning.specs.Frames.{Frame}
@@ -66,13 +66,13 @@ unfolding sourced op_of
 sourced-role f e = source-role _ e
 
 -- a walk that does not open or close takes an element
-takes : (n : ℕ) → is_walk n ≡ true → n ≢ OPEN-WALK → n ≢ CLOSE-WALK → (n ≡ NEXT) ⊎ (n ≡ NEXT-BACK)
-takes n w o c = pick (ℕ_discrete n NEXT) (ℕ_discrete n NEXT-BACK)
+takes : (n : ℕ) → is_walk n ≡ true → n ≢ open_walk_code → n ≢ close_walk_code → (n ≡ next_code) ⊎ (n ≡ next_back_code)
+takes n w o c = pick (ℕ_discrete n next_code) (ℕ_discrete n next_back_code)
   where
-    pick : Dec (n ≡ NEXT) → Dec (n ≡ NEXT-BACK) → (n ≡ NEXT) ⊎ (n ≡ NEXT-BACK)
+    pick : Dec (n ≡ next_code) → Dec (n ≡ next_back_code) → (n ≡ next_code) ⊎ (n ≡ next_back_code)
     pick (yes e) d = inl e
     pick (no a) (yes e) = inr e
-    pick (no a) (no b) = absurd (false≢true (rw (ne_eqb n NEXT a, ne_eqb n NEXT-BACK b, ne_eqb n OPEN-WALK o, ne_eqb n CLOSE-WALK c) at w))
+    pick (no a) (no b) = absurd (false≢true (rw (ne_eqb n next_code a, ne_eqb n next_back_code b, ne_eqb n open_walk_code o, ne_eqb n close_walk_code c) at w))
 
 -- a walk of the caller's own
 record OnOwnWalk (o : Op) : Type 0 where
@@ -101,9 +101,9 @@ module _ (r : Run) (f : Frame) (k : Runs r) where
         let l = live-is r.store.nodes (version-legal r (taker f) f.destination k) (other-lives (op_of f) r f k p e) in
         record { bits = l.bits; length = l.length }
 
-    compared : f.operation ≡ COMPARE → (uses (op_of f)).destination ≡ source
+    compared : f.operation ≡ compare_code → (uses (op_of f)).destination ≡ source
     unfolding operations uses anyone
-    compared e = rw (op-is f COMPARE e)
+    compared e = rw (op-is f compare_code e)
 
     sources : Sources r.store f (source_in r f) (target_in r f)
     sources = record {
@@ -138,18 +138,18 @@ module _ (r : Run) (f : Frame) (k : Runs r) where
         taken = used-open.taken;
       }
 
-    opens : f.operation ≡ OPEN-WALK → (uses (op_of f)).slot ≡ source
+    opens : f.operation ≡ open_walk_code → (uses (op_of f)).slot ≡ source
     unfolding operations uses anyone
-    opens e = rw (op-is f OPEN-WALK e)
+    opens e = rw (op-is f open_walk_code e)
 
-    closes : f.operation ≡ CLOSE-WALK → OnOwnWalk (op_of f)
+    closes : f.operation ≡ close_walk_code → OnOwnWalk (op_of f)
     unfolding operations uses anyone
-    closes e = own-walk f CLOSE-WALK e (record { slot = refl; index = refl })
+    closes e = own-walk f close_walk_code e (record { slot = refl; index = refl })
 
-    steps : (f.operation ≡ NEXT) ⊎ (f.operation ≡ NEXT-BACK) → OnOwnWalk (op_of f)
+    steps : (f.operation ≡ next_code) ⊎ (f.operation ≡ next_back_code) → OnOwnWalk (op_of f)
     unfolding operations uses anyone
-    steps (inl e) = own-walk f NEXT e (record { slot = refl; index = refl })
-    steps (inr e) = own-walk f NEXT-BACK e (record { slot = refl; index = refl })
+    steps (inl e) = own-walk f next_code e (record { slot = refl; index = refl })
+    steps (inr e) = own-walk f next_back_code e (record { slot = refl; index = refl })
 
     on-walk : is_walk f.operation ≡ true → OnWalk r.store r.walks f (source_in r f)
     on-walk e = record {

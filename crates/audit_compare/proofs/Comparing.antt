@@ -9,7 +9,7 @@ use native.Mathlib.Omega.{arith}
 use lib.Dec.{eqb, leb}
 use lib.ListN.{get_or}
 use borrow.Author.Tests.{eq-eqb, ne_eqb, le-leb, lt-leb}
-use Rattle.meaning.specs.Limits.{max_nodes, node_cells, FREE, all_numbers, places}
+use Rattle.meaning.specs.Limits.{max_nodes, node_cells, free_kind, all_numbers, places}
 use Rattle.meaning.specs.Lent.{Nodes, kind_of, used_of, cell_of}
 use Rattle.audit_model.specs.Audit.{lengths_ok, spare_ok, node_ok}
 use Rattle.audit_model.proofs.Steps.{Held, held_start, held_next, from-ends, from-fails, cond_yes, cond_no, and_yes, and_no}
@@ -47,18 +47,18 @@ module _ (u : ℕ) (cell : ℕ → ℕ) where
 
 module _ (s : Nodes) (counts codes t : List ℕ) (n k u c x : ℕ) (kind : k ≡ kind_of s n) (used : u ≡ used_of s n) (count : c ≡ get_or counts n 0) (tally : x ≡ get_or t n 0) where
   node-is : (m : ℕ) → m ≡ get_or codes n 0
-      → cond (eqb k FREE) ((eqb x 1 && eqb u 0) && eqb c 0) ((not (eqb m 0) && eqb x c) && spare_ok u (cell_of s n)) ≡ node_ok s counts codes t n
+      → cond (eqb k free_kind) ((eqb x 1 && eqb u 0) && eqb c 0) ((not (eqb m 0) && eqb x c) && spare_ok u (cell_of s n)) ≡ node_ok s counts codes t n
   unfolding node_ok
   node-is m e = rw (kind, used, count, tally, e)
 
-  pub node-free : k ≡ FREE → ((eqb x 1 && eqb u 0) && eqb c 0) ≡ node_ok s counts codes t n
-  node-free e = cond_yes _ _ _ (eq-eqb k FREE e) ∙ node-is (get_or codes n 0) refl
+  pub node-free : k ≡ free_kind → ((eqb x 1 && eqb u 0) && eqb c 0) ≡ node_ok s counts codes t n
+  node-free e = cond_yes _ _ _ (eq-eqb k free_kind e) ∙ node-is (get_or codes n 0) refl
 
-  pub node-differs : (m : ℕ) → m ≡ get_or codes n 0 → k ≢ FREE → (not (eqb m 0) && eqb x c) ≡ false → false ≡ node_ok s counts codes t n
-  node-differs m e f q = and_no _ _ q ∙ cond_no _ _ _ (ne_eqb k FREE f) ∙ node-is m e
+  pub node-differs : (m : ℕ) → m ≡ get_or codes n 0 → k ≢ free_kind → (not (eqb m 0) && eqb x c) ≡ false → false ≡ node_ok s counts codes t n
+  node-differs m e f q = and_no _ _ q ∙ cond_no _ _ _ (ne_eqb k free_kind f) ∙ node-is m e
 
-  pub node-spare : (m : ℕ) (r : Bool) → m ≡ get_or codes n 0 → k ≢ FREE → (not (eqb m 0) && eqb x c) ≡ true → r ≡ spare_ok u (cell_of s n) → r ≡ node_ok s counts codes t n
-  node-spare m r e f q p = p ∙ and_yes _ _ q ∙ cond_no _ _ _ (ne_eqb k FREE f) ∙ node-is m e
+  pub node-spare : (m : ℕ) (r : Bool) → m ≡ get_or codes n 0 → k ≢ free_kind → (not (eqb m 0) && eqb x c) ≡ true → r ≡ spare_ok u (cell_of s n) → r ≡ node_ok s counts codes t n
+  node-spare m r e f q p = p ∙ and_yes _ _ q ∙ cond_no _ _ _ (ne_eqb k free_kind f) ∙ node-is m e
 
 -- ---- lengths
 

@@ -7,7 +7,7 @@ use native.Mathlib.Omega.{arith}
 use lib.Dec.{eqb, leb, ltb}
 use lib.Pow.{pow_mono}
 use borrow.Author.Tests.{leb-true}
-use Rattle.meaning.specs.Limits.{BRANCH, LEAF, node_cells, max_bits, length_bits, max_length, walk_levels, word_width}
+use Rattle.meaning.specs.Limits.{branch_kind, leaf_kind, node_cells, max_bits, length_bits, max_length, walk_levels, word_width}
 use Rattle.meaning.specs.Shape.{degree}
 use Rattle.meaning.proofs.Booleans.{both_true}
 use Rattle.shape.proofs.Powers.{degree-most, degree-power, one-shifts}
@@ -23,20 +23,20 @@ capacity-is b h l =
 pub product : (a b x y : ℕ) → a ≤ x → b ≤ y → a * b ≤ x * y
 product a b x y l k = mul-le-mul l k
 
-pub leaf-tested : (k u b m d : ℕ) → d ≡ degree b → ((eqb k LEAF && eqb u m) && leb m d) ≡ leaf_ok k u b m
+pub leaf-tested : (k u b m d : ℕ) → d ≡ degree b → ((eqb k leaf_kind && eqb u m) && leb m d) ≡ leaf_ok k u b m
 unfolding leaf_ok
 leaf-tested k u b m d e = rw e
 
 branch-few : (k u b c m : ℕ) → b ≤ max_bits → branch_ok k u b c m ≡ true → u ≤ node_cells
 unfolding branch_ok
 branch-few k u b c m l e =
-    let x = both_true ((eqb k BRANCH && leb u (degree b)) && leb m (u * c)) (ltb (u * c) (m + c)) e in
-    let y = both_true (eqb k BRANCH && leb u (degree b)) (leb m (u * c)) x.0 in
-    let w = both_true (eqb k BRANCH) (leb u (degree b)) y.0 in
+    let x = both_true ((eqb k branch_kind && leb u (degree b)) && leb m (u * c)) (ltb (u * c) (m + c)) e in
+    let y = both_true (eqb k branch_kind && leb u (degree b)) (leb m (u * c)) x.0 in
+    let w = both_true (eqb k branch_kind) (leb u (degree b)) y.0 in
     omega (arith, degree-most b l, leb-true u (degree b) w.1)
 
 pub branch-tested : (k u b c m d : ℕ) → b ≤ max_bits → d ≡ degree b
-    → let r = ((eqb k BRANCH && leb u d) && leb m (u * c)) && ltb (u * c) (m + c) in (r ≡ branch_ok k u b c m) × (r ≡ true → u ≤ node_cells)
+    → let r = ((eqb k branch_kind && leb u d) && leb m (u * c)) && ltb (u * c) (m + c) in (r ≡ branch_ok k u b c m) × (r ≡ true → u ≤ node_cells)
 unfolding branch_ok
 branch-tested k u b c m d l e = rw e (refl, λ q. branch-few k u b c m l q)
 

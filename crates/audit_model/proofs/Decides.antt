@@ -9,7 +9,7 @@ use native.Mathlib.Omega.{arith}
 use lib.Dec.{eqb, ltb}
 use lib.ListN.{length, get_or}
 use borrow.Author.Tests.{eqb-true, eqb-false, ltb-true, eq-eqb, ne_eqb, not-true}
-use Rattle.meaning.specs.Limits.{node_cells, FREE}
+use Rattle.meaning.specs.Limits.{node_cells, free_kind}
 use Rattle.meaning.specs.Counting.{sum_to, bit, occurrences, Each}
 use Rattle.meaning.specs.Lent.{Nodes, kind_of, used_of, cell_of, Lent, size, count_of, is_free, free_nodes, free_order, walk_records}
 use Rattle.meaning.specs.Links.{roots, cell_links, links, Reached, by_root, by_cell}
@@ -28,9 +28,9 @@ use Rattle.audit_model.proofs.Marks.{records-done, reached-marked, legal-each, e
 
 -- ---- one node
 
-is_free_lem : (s : Nodes) (n : ℕ) → is_free s n ≡ true → (n < length s.kinds) × (kind_of s n ≡ FREE)
+is_free_lem : (s : Nodes) (n : ℕ) → is_free s n ≡ true → (n < length s.kinds) × (kind_of s n ≡ free_kind)
 unfolding is_free
-is_free_lem s n e = let x = both_true (ltb n (length s.kinds)) (eqb (kind_of s n) FREE) e in (ltb-true _ _ x.0, eqb-true _ _ x.1)
+is_free_lem s n e = let x = both_true (ltb n (length s.kinds)) (eqb (kind_of s n) free_kind) e in (ltb-true _ _ x.0, eqb-true _ _ x.1)
 
 no-links : (s : Lent) (n : ℕ) → occurrences n (roots s) ≡ 0 → sum_to (size s) (λ m. cell_links s.nodes m n) ≡ 0 → links s n ≡ 0
 unfolding links
@@ -38,13 +38,13 @@ no-links s n p q = omega arith
 
 -- what the comparison says of a node
 record Compared (s : Lent) (codes t : List ℕ) (n : ℕ) : Type 0 where
-  free : kind_of s.nodes n ≡ FREE → (get_or t n 0 ≡ 1) × (used_of s.nodes n ≡ 0) × (count_of s n ≡ 0)
-  reached : kind_of s.nodes n ≢ FREE → (get_or codes n 0 ≢ 0) × (get_or t n 0 ≡ count_of s n)
-  spare : kind_of s.nodes n ≢ FREE → (i : ℕ) → used_of s.nodes n ≤ i → i < node_cells → cell_of s.nodes n i ≡ 0
+  free : kind_of s.nodes n ≡ free_kind → (get_or t n 0 ≡ 1) × (used_of s.nodes n ≡ 0) × (count_of s n ≡ 0)
+  reached : kind_of s.nodes n ≢ free_kind → (get_or codes n 0 ≢ 0) × (get_or t n 0 ≡ count_of s n)
+  spare : kind_of s.nodes n ≢ free_kind → (i : ℕ) → used_of s.nodes n ≤ i → i < node_cells → cell_of s.nodes n i ≡ 0
 
 node-compared : (s : Lent) (codes t : List ℕ) (n : ℕ) → node_ok s.nodes s.counts codes t n ≡ true → Compared s codes t n
 unfolding node_ok spare_ok
-node-compared s codes t n e = by (eqb (kind_of s.nodes n) FREE) refl e
+node-compared s codes t n e = by (eqb (kind_of s.nodes n) free_kind) refl e
   where
     free : Bool
     free = (eqb (get_or t n 0) 1 && eqb (used_of s.nodes n) 0) && eqb (count_of s n) 0
@@ -52,9 +52,9 @@ node-compared s codes t n e = by (eqb (kind_of s.nodes n) FREE) refl e
     other : Bool
     other = (not (eqb (get_or codes n 0) 0) && eqb (get_or t n 0) (count_of s n)) && spare_ok (used_of s.nodes n) (cell_of s.nodes n)
 
-    by : (o : Bool) → eqb (kind_of s.nodes n) FREE ≡ o → cond o free other ≡ true → Compared s codes t n
+    by : (o : Bool) → eqb (kind_of s.nodes n) free_kind ≡ o → cond o free other ≡ true → Compared s codes t n
     by true k q =
-        let is : kind_of s.nodes n ≡ FREE = eqb-true _ _ k in
+        let is : kind_of s.nodes n ≡ free_kind = eqb-true _ _ k in
         let x = both_true (eqb (get_or t n 0) 1 && eqb (used_of s.nodes n) 0) (eqb (count_of s n) 0) q in
         let y = both_true (eqb (get_or t n 0) 1) (eqb (used_of s.nodes n) 0) x.0 in
         record {
@@ -63,7 +63,7 @@ node-compared s codes t n e = by (eqb (kind_of s.nodes n) FREE) refl e
           spare = λ f. absurd (f is);
         }
     by false k q =
-        let isn't : kind_of s.nodes n ≢ FREE = eqb-false _ _ k in
+        let isn't : kind_of s.nodes n ≢ free_kind = eqb-false _ _ k in
         let x = both_true (not (eqb (get_or codes n 0) 0) && eqb (get_or t n 0) (count_of s n)) (spare_ok (used_of s.nodes n) (cell_of s.nodes n)) q in
         let y = both_true (not (eqb (get_or codes n 0) 0)) (eqb (get_or t n 0) (count_of s n)) x.0 in
         record {
@@ -74,9 +74,9 @@ node-compared s codes t n e = by (eqb (kind_of s.nodes n) FREE) refl e
 
 compared-node : (s : Lent) (codes t : List ℕ) (n : ℕ) → Compared s codes t n → node_ok s.nodes s.counts codes t n ≡ true
 unfolding node_ok spare_ok
-compared-node s codes t n c = by (eqb (kind_of s.nodes n) FREE) refl
+compared-node s codes t n c = by (eqb (kind_of s.nodes n) free_kind) refl
   where
-    by : (o : Bool) → eqb (kind_of s.nodes n) FREE ≡ o
+    by : (o : Bool) → eqb (kind_of s.nodes n) free_kind ≡ o
         → cond o ((eqb (get_or t n 0) 1 && eqb (used_of s.nodes n) 0) && eqb (count_of s n) 0)
         ((not (eqb (get_or codes n 0) 0) && eqb (get_or t n 0) (count_of s n)) && spare_ok (used_of s.nodes n) (cell_of s.nodes n)) ≡ true
     by true k =
@@ -107,7 +107,7 @@ module _ (s : Lent) (fit : SizesFit s) (z : List ℕ) (blank : Blank (size s) z)
     sizes = fit;
     versions = versions;
     walks = walks;
-    counted = λ n l. counted n l (ℕ_discrete (kind_of s.nodes n) FREE);
+    counted = λ n l. counted n l (ℕ_discrete (kind_of s.nodes n) free_kind);
     reached = λ n. (reached n, used n);
     once = λ n. once n (is_free s.nodes n) refl;
     spare = λ n i f. (compared n (used-inside s.nodes n f)).spare f i;
@@ -133,14 +133,14 @@ module _ (s : Lent) (fit : SizesFit s) (z : List ℕ) (blank : Blank (size s) z)
       compared : (n : ℕ) → n < size s → Compared s a.codes (tallies s z) n
       compared n l = node-compared s a.codes (tallies s z) n (all-at (size s) (node_ok s.nodes s.counts a.codes (tallies s z)) x.1 n l)
 
-      reached : (n : ℕ) → kind_of s.nodes n ≢ FREE → Reached s.nodes (roots s) n
+      reached : (n : ℕ) → kind_of s.nodes n ≢ free_kind → Reached s.nodes (roots s) n
       reached n f = ((records-done s fit z blank).good ok.0).only n ((compared n (used-inside s.nodes n f)).reached f).0
 
-      used : (n : ℕ) → Reached s.nodes (roots s) n → kind_of s.nodes n ≢ FREE
+      used : (n : ℕ) → Reached s.nodes (roots s) n → kind_of s.nodes n ≢ free_kind
       used n r = reached-used s versions walks r
 
       -- nothing links a free node
-      unlinked : (n : ℕ) → kind_of s.nodes n ≡ FREE → links s n ≡ 0
+      unlinked : (n : ℕ) → kind_of s.nodes n ≡ free_kind → links s n ≡ 0
       unlinked n k = no-links s n (none_of (occurrences n (roots s)) (λ l. used n (by_root l) k)) (sum-none (size s) (λ m. cell_links s.nodes m n) (λ m _. none_of _ (λ l. linked m l)))
         where
           linked : (m : ℕ) → 1 ≤ cell_links s.nodes m n → ⊥
@@ -152,7 +152,7 @@ module _ (s : Lent) (fit : SizesFit s) (z : List ℕ) (blank : Blank (size s) z)
           let r = ordered n l in
           rw r.2 at (all-at (free_nodes s.nodes) (λ j. is_free s.nodes (get_or s.order j 0)) ok.1 r.0 r.1)
 
-      counted : (n : ℕ) → n < size s → Dec (kind_of s.nodes n ≡ FREE) → count_of s n ≡ links s n
+      counted : (n : ℕ) → n < size s → Dec (kind_of s.nodes n ≡ free_kind) → count_of s n ≡ links s n
       counted n l (yes k) = omega (arith, ((compared n l).free k).2, unlinked n k)
       counted n l (no f) =
           let none = none_of (occurrences n (free_order s)) (λ q. f (is_free_lem s.nodes n (free-ordered n q)).1) in
@@ -184,10 +184,10 @@ module _ (s : Lent) (fit : SizesFit s) (z : List ℕ) (blank : Blank (size s) z)
         spare = λ f i. W.spare n i f;
       }
         where
-          free : kind_of s.nodes n ≡ FREE → get_or (tallies s z) n 0 ≡ 1
+          free : kind_of s.nodes n ≡ free_kind → get_or (tallies s z) n 0 ≡ 1
           free k = omega (arith, free-bit s.nodes n l k, tallies-are s fit z blank n l, W.once n, W.counted n l, W.free_count n l k)
 
-          other : kind_of s.nodes n ≢ FREE → get_or (tallies s z) n 0 ≡ count_of s n
+          other : kind_of s.nodes n ≢ free_kind → get_or (tallies s z) n 0 ≡ count_of s n
           other f = omega (arith, used-bit s.nodes n f, tallies-are s fit z blank n l, W.once n, W.counted n l)
 
   pub rest-decides : (rest_ok s z ≡ true) ↔ WellFormed s

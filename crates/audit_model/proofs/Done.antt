@@ -7,7 +7,7 @@ use Prim.Native.Nat.{ℕ, zero, suc, ◌≤◌, ◌<◌}
 use native.Mathlib.Nat.{lt_irrefl, eq-or-lt_of_le, le_of_suc-le-suc}
 use native.Mathlib.Omega.{arith}
 use lib.ListN.{length, get_or}
-use Rattle.meaning.specs.Limits.{BRANCH, max_length, walk_levels}
+use Rattle.meaning.specs.Limits.{branch_kind, max_length, walk_levels}
 use Rattle.meaning.specs.Lent.{Nodes, kind_of, used_of, cell_of}
 use Rattle.meaning.specs.Trees.{Shaped}
 use Rattle.meaning.specs.WellFormed.{LegalBits}
@@ -24,7 +24,7 @@ pub record Numbers (b h m : ℕ) : Type 0 where
 pub record Good (s : Nodes) (P : ℕ → Type 0) (t : List ℕ) : Type 0 where
   pub room : length s.kinds ≤ length t
   pub right : (bits h m n : ℕ) → Numbers bits h m → get_or t n 0 ≡ code bits h m → Shaped s bits h m n
-  pub closed : (n i : ℕ) → get_or t n 0 ≢ 0 → kind_of s n ≡ BRANCH → i < used_of s n → get_or t (cell_of s n i) 0 ≢ 0
+  pub closed : (n i : ℕ) → get_or t n 0 ≢ 0 → kind_of s n ≡ branch_kind → i < used_of s n → get_or t (cell_of s n i) 0 ≢ 0
   pub only : (n : ℕ) → get_or t n 0 ≢ 0 → P n
 
 unfoldable pub Grows : List ℕ → List ℕ → Type 0

@@ -7,7 +7,7 @@ use Prim.Native.Nat.{ℕ, ◌+◌, ◌≤◌, ◌<◌}
 use native.Mathlib.Decide.{dec_lt}
 use native.Mathlib.Omega.{arith}
 use lib.ListN.{get_or}
-use Rattle.meaning.specs.Limits.{BRANCH, version_count, walk_count}
+use Rattle.meaning.specs.Limits.{branch_kind, version_count, walk_count}
 use Rattle.meaning.specs.Counting.{occurrences, rows, Each}
 use Rattle.meaning.specs.Lent.{kind_of, used_of, cell_of, empty_record, walk_record, walk_records, Lent, size}
 use Rattle.meaning.specs.Links.{live_roots, roots, Reached, by_root, by_cell}
@@ -25,7 +25,7 @@ module _ (s : Lent) (fit : SizesFit s) where
   abbrev P : ℕ → Type 0
   P = Reached s.nodes (roots s)
 
-  by-cell : (n i : ℕ) → Reached s.nodes (roots s) n → kind_of s.nodes n ≡ BRANCH → i < used_of s.nodes n → Reached s.nodes (roots s) (cell_of s.nodes n i)
+  by-cell : (n i : ℕ) → Reached s.nodes (roots s) n → kind_of s.nodes n ≡ branch_kind → i < used_of s.nodes n → Reached s.nodes (roots s) (cell_of s.nodes n i)
   by-cell n i p k l = by_cell p (child-linked s.nodes n i k l)
 
   split : (n : ℕ) → occurrences n (roots s)

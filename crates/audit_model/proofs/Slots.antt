@@ -9,7 +9,7 @@ use native.Mathlib.Omega.{arith}
 use lib.Dec.{eqb, leb}
 use lib.ListN.{length}
 use borrow.Author.Tests.{eqb-true, eqb-false, leb-true, eq-eqb, le-leb}
-use Rattle.meaning.specs.Limits.{BRANCH, max_bits, max_length, walk_levels}
+use Rattle.meaning.specs.Limits.{branch_kind, max_bits, max_length, walk_levels}
 use Rattle.meaning.specs.Lent.{Nodes, kind_of, used_of, cell_of, VersionRecord, empty_record, WalkSlices, Level, WalkRecord, closed_record, walk_record}
 use Rattle.meaning.specs.Shape.{height}
 use Rattle.meaning.specs.Trees.{Shaped, height_of}
@@ -62,7 +62,7 @@ is-legal v e l =
 abbrev pub Root : VersionRecord → (n : ℕ) → Type 0
 Root v n = (v.live ≡ 1) × (n ≡ v.root)
 
-module _ (s : Nodes) (P : ℕ → Type 0) (step : (n i : ℕ) → P n → kind_of s n ≡ BRANCH → i < used_of s n → P (cell_of s n i)) where
+module _ (s : Nodes) (P : ℕ → Type 0) (step : (n i : ℕ) → P n → kind_of s n ≡ branch_kind → i < used_of s n → P (cell_of s n i)) where
   pub version-done : (v : VersionRecord) (t : List ℕ) → (v.live ≡ 1 → P v.root) → Good s P t → Done s P (LegalVersion s v) (Root v) t (version_step s v t)
   unfolding version_step pick
   version-done v t p g = first (eqb v.live 0) refl
@@ -168,7 +168,7 @@ module _ (s : Nodes) (w : WalkSlices) (n : ℕ) where
   legal-agreed r (inl e) = (inl (ap (λ (x : WalkRecord). x.version) e), is-closed s w n r e)
   legal-agreed r (inr k) = (inr k.version, record { taken = k.taken; forward = k.forward; backward = k.backward })
 
-module _ (s : Nodes) (P : ℕ → Type 0) (step : (n i : ℕ) → P n → kind_of s n ≡ BRANCH → i < used_of s n → P (cell_of s n i)) where
+module _ (s : Nodes) (P : ℕ → Type 0) (step : (n i : ℕ) → P n → kind_of s n ≡ branch_kind → i < used_of s n → P (cell_of s n i)) where
   pub walk-done : (w : WalkSlices) (n : ℕ) (t : List ℕ) → ((walk_record w n).version.live ≡ 1 → P (walk_record w n).version.root) → Good s P t
       → Done s P (LegalWalk s (walk_record w n)) (Root (walk_record w n).version) t (walk_step s w n t)
   unfolding walk_step

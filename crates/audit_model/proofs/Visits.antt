@@ -11,7 +11,7 @@ use lib.Dec.{eqb, ltb}
 use lib.ListN.{length, get_or, set, length-set}
 use lib.Seq.{get_or-set_same, get_or-set_other}
 use borrow.Author.Tests.{eqb-true, leb-true, ltb-true, eq-eqb, le-leb, lt-ltb, ltb-false}
-use Rattle.meaning.specs.Limits.{BRANCH, max_length}
+use Rattle.meaning.specs.Limits.{branch_kind, max_length}
 use Rattle.meaning.specs.Lent.{Nodes, kind_of, used_of, cell_of}
 use Rattle.meaning.specs.Shape.{degree}
 use Rattle.meaning.specs.Trees.{Shaped}
@@ -44,7 +44,7 @@ shaped-leaf : (s : Nodes) (b m n : ℕ) → Shaped s b 0 m n → leaf_ok (kind_o
 unfolding leaf_ok Shaped
 shaped-leaf s b m n p = true-both _ _ (true-both _ _ (eq-eqb _ _ p.kind) (eq-eqb _ _ p.used)) (le-leb _ _ p.room)
 
-leaf-childless : (s : Nodes) (b m n : ℕ) → Shaped s b 0 m n → kind_of s n ≢ BRANCH
+leaf-childless : (s : Nodes) (b m n : ℕ) → Shaped s b 0 m n → kind_of s n ≢ branch_kind
 unfolding Shaped
 leaf-childless s b m n p e = lt_irrefl zero (omega (arith, p.kind))
 
@@ -68,7 +68,7 @@ shaped-children : (s : Nodes) (b h m n : ℕ) → Shaped s b (suc h) m n → Chi
 unfolding Shaped
 shaped-children s b h m n p = p.children
 
-branch-kind : (k u b c m : ℕ) → branch_ok k u b c m ≡ true → k ≡ BRANCH
+branch-kind : (k u b c m : ℕ) → branch_ok k u b c m ≡ true → k ≡ branch_kind
 unfolding branch_ok
 branch-kind k u b c m e = eqb-true _ _ (both_true _ _ (both_true _ _ (both_true _ _ e).0).0).0
 
@@ -84,7 +84,7 @@ mark-grows t n x l f = (λ k g. by k g (ℕ_discrete k n), rw (get_or-set_same t
 
 module _ (s : Nodes) (P : ℕ → Type 0) where
   mark-good : (b h m n : ℕ) (t : List ℕ) → Numbers b h m → Good s P t → P n → Shaped s b h m n
-      → ((i : ℕ) → kind_of s n ≡ BRANCH → i < used_of s n → get_or t (cell_of s n i) 0 ≢ 0) → Good s P (set t n (code b h m))
+      → ((i : ℕ) → kind_of s n ≡ branch_kind → i < used_of s n → get_or t (cell_of s n i) 0 ≢ 0) → Good s P (set t n (code b h m))
   unfolding Grows
   mark-good b h m n t w g p z kids = record {
     room = rw length-set g.room;
@@ -106,7 +106,7 @@ module _ (s : Nodes) (P : ℕ → Type 0) where
           rw (d, ← j.0, ← j.1, ← j.2) z
       right b' h' m' k w' e (no d) = g.right b' h' m' k w' (sym (get_or-set_other t n k (code b h m) 0 d) ∙ e)
 
-      closed : (k i : ℕ) → get_or (set t n (code b h m)) k 0 ≢ 0 → kind_of s k ≡ BRANCH → i < used_of s k → Dec (k ≡ n) → get_or (set t n (code b h m)) (cell_of s k i) 0 ≢ 0
+      closed : (k i : ℕ) → get_or (set t n (code b h m)) k 0 ≢ 0 → kind_of s k ≡ branch_kind → i < used_of s k → Dec (k ≡ n) → get_or (set t n (code b h m)) (cell_of s k i) 0 ≢ 0
       closed k i f q l (yes d) = grow (cell_of s k i) (rw d (kids i (rw d at q) (rw d at l)))
       closed k i f q l (no d) = grow (cell_of s k i) (g.closed k i (rw (get_or-set_other t n k (code b h m) 0 d) at f) q l)
 
@@ -118,10 +118,10 @@ module _ (s : Nodes) (P : ℕ → Type 0) where
 abbrev pub Visited : Nodes → (ℕ → Type 0) → (b h m n : ℕ) → List ℕ → Answer → Type 0
 Visited s P b h m n t a = Done s P (Shaped s b h m n) (λ k. k ≡ n) t a
 
-module _ (s : Nodes) (P : ℕ → Type 0) (step : (n i : ℕ) → P n → kind_of s n ≡ BRANCH → i < used_of s n → P (cell_of s n i)) where
+module _ (s : Nodes) (P : ℕ → Type 0) (step : (n i : ℕ) → P n → kind_of s n ≡ branch_kind → i < used_of s n → P (cell_of s n i)) where
   -- a node that is found right, and marked
   visited-marked : (b h m n : ℕ) (t : List ℕ) → Numbers b h m → P n → Good s P t → Shaped s b h m n
-      → ((i : ℕ) → kind_of s n ≡ BRANCH → i < used_of s n → get_or t (cell_of s n i) 0 ≢ 0) → Visited s P b h m n t (marked n (code b h m) t)
+      → ((i : ℕ) → kind_of s n ≡ branch_kind → i < used_of s n → get_or t (cell_of s n i) 0 ≢ 0) → Visited s P b h m n t (marked n (code b h m) t)
   unfolding marked
   visited-marked b h m n t w p g z below =
       let x = mark-grows t n (code b h m) (omega (arith, g.room, shaped-inside s b h m n z)) (code-some b h m w.bits.least) in

@@ -1,6 +1,6 @@
 -- The audit, whole: the sizes first, then the records, then what is left to compare.
 use Rattle.std.specs.Prelude.{◌≡◌, Bool, cond, not, ◌&&◌, List, ℕ, ◌*◌, ◌≤◌, eqb, leb, length, get_or}
-use Rattle.meaning.specs.Limits.{max_nodes, node_cells, FREE, version_count, walk_count, all_numbers, places}
+use Rattle.meaning.specs.Limits.{max_nodes, node_cells, free_kind, version_count, walk_count, all_numbers, places}
 use Rattle.meaning.specs.Lent.{Nodes, kind_of, used_of, cell_of, VersionRecord, empty_record, walk_record, Lent, size, is_free, free_nodes}
 use Rattle.audit_model.specs.Descent.{Answer, and_then, through}
 use Rattle.audit_model.specs.Records.{all_to, all_from, version_step, walk_step}
@@ -59,7 +59,7 @@ spare_ok u cell = all_from u node_cells (λ i. eqb (cell i) 0)
 -- a free node stands in the order once, is linked by none and is 0; any other was reached, and its count is the links to it
 unfoldable pub node_ok : Nodes → (counts codes tallies : List ℕ) → (n : ℕ) → Bool
 node_ok s counts codes t n =
-    cond (eqb (kind_of s n) FREE)
+    cond (eqb (kind_of s n) free_kind)
     ((eqb (get_or t n 0) 1 && eqb (used_of s n) 0) && eqb (get_or counts n 0) 0)
     ((not (eqb (get_or codes n 0) 0) && eqb (get_or t n 0) (get_or counts n 0)) && spare_ok (used_of s n) (cell_of s n))
 

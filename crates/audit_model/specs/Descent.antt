@@ -1,6 +1,6 @@
 -- The descent into a version, with the code under which each node was already found right.
 use Rattle.std.specs.Prelude.{Bool, true, false, ◌&&◌, List, ℕ, zero, suc, ◌+◌, ◌-◌, ◌*◌, ◌^◌, min, eqb, leb, ltb, length, get_or, set}
-use Rattle.meaning.specs.Limits.{LEAF, BRANCH}
+use Rattle.meaning.specs.Limits.{leaf_kind, branch_kind}
 use Rattle.meaning.specs.Lent.{Nodes, kind_of, used_of, cell_of}
 use Rattle.meaning.specs.Shape.{degree}
 
@@ -45,10 +45,10 @@ unfoldable pub marked : (n x : ℕ) → List ℕ → Answer
 marked n x t = answer true (set t n x)
 
 unfoldable pub leaf_ok : (kind used bits m : ℕ) → Bool
-leaf_ok k u bits m = (eqb k LEAF && eqb u m) && leb m (degree bits)
+leaf_ok k u bits m = (eqb k leaf_kind && eqb u m) && leb m (degree bits)
 
 unfoldable pub branch_ok : (kind used bits c m : ℕ) → Bool
-branch_ok k u bits c m = ((eqb k BRANCH && leb u (degree bits)) && leb m (u * c)) && ltb (u * c) (m + c)
+branch_ok k u bits c m = ((eqb k branch_kind && leb u (degree bits)) && leb m (u * c)) && ltb (u * c) (m + c)
 
 -- a number that is no node is refused, and a node that is marked with this code is right
 unfoldable pub known : Nodes → (x n : ℕ) → List ℕ → Answer → Answer

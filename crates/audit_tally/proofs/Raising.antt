@@ -13,7 +13,7 @@ use lib.ListN.{length, get_or, set, get_or-map}
 use lib.Seq.{get_or-set_same, get_or-set_other, set_out}
 use mir.Val.{bool_byte}
 use borrow.Author.Tests.{eq-eqb, ne_eqb}
-use Rattle.meaning.specs.Limits.{BRANCH}
+use Rattle.meaning.specs.Limits.{branch_kind}
 use Rattle.meaning.specs.Counting.{bit, how_many, sum_to}
 use Rattle.meaning.specs.Lent.{Nodes, kind_of, used_of, cell_of, child_count, is_free, free_nodes, VersionRecord}
 use Rattle.records.specs.declared.Version.{Version}
@@ -80,19 +80,19 @@ module _ (f : ℕ → ℕ) (t₀ : List ℕ) where
 -- ---- nodes
 
 module _ (s : Nodes) where
-  pub node-none : (m k : ℕ) (t : List ℕ) → k ≡ kind_of s m → k ≢ BRANCH → t ≡ node_tally s m t
+  pub node-none : (m k : ℕ) (t : List ℕ) → k ≡ kind_of s m → k ≢ branch_kind → t ≡ node_tally s m t
   unfolding node_tally child_count raise_to
-  node-none m k t e f = rw (ne_eqb (kind_of s m) BRANCH (λ d. f (e ∙ d)))
+  node-none m k t e f = rw (ne_eqb (kind_of s m) branch_kind (λ d. f (e ∙ d)))
 
-  pub node-links : (m k u : ℕ) (t t' : List ℕ) → k ≡ kind_of s m → k ≡ BRANCH → u ≡ used_of s m → t' ≡ raise_to u (cell_of s m) t → t' ≡ node_tally s m t
+  pub node-links : (m k u : ℕ) (t t' : List ℕ) → k ≡ kind_of s m → k ≡ branch_kind → u ≡ used_of s m → t' ≡ raise_to u (cell_of s m) t → t' ≡ node_tally s m t
   unfolding node_tally child_count
   node-links m k u t t' e f q r =
       let r' : t' ≡ raise_to (used_of s m) (cell_of s m) t = rw q at r in
-      r' ∙ rw (eq-eqb (kind_of s m) BRANCH (sym e ∙ f))
+      r' ∙ rw (eq-eqb (kind_of s m) branch_kind (sym e ∙ f))
 
   under-node : (m : ℕ) (t : List ℕ) (j : ℕ) → used_of s m ≤ 255 → Under j t → Under (j + 255) (node_tally s m t)
   unfolding node_tally child_count
-  under-node m t j l u = by (eqb (kind_of s m) BRANCH)
+  under-node m t j l u = by (eqb (kind_of s m) branch_kind)
     where
       by : (o : Bool) → Under (j + 255) (raise_to (cond o (used_of s m) 0) (cell_of s m) t)
       by true = under_more (j + used_of s m) (j + 255) _ (under_to (used_of s m) (cell_of s m) t j u) (omega arith)

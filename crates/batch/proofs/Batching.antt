@@ -7,7 +7,7 @@ use Prim.Native.Nat.{ℕ, suc, ◌*◌, ◌/◌, ◌%◌, ◌≤◌, ◌<◌}
 use lib.ListN.{length, drop}
 use lib.IntN.{ℤ}
 use borrow.Author.Tests.{eq-eqb, ne_eqb, lt-ltb, le-ltb}
-use Rattle.meaning.specs.Limits.{frame_size, answer_size, DONE}
+use Rattle.meaning.specs.Limits.{frame_size, answer_size, done_number}
 use Rattle.meaning.specs.Counting.{divides}
 use Rattle.meaning.specs.Lent.{VersionRecord, Lent, free_nodes}
 use Rattle.meaning.specs.WellFormed.{WellFormed}
@@ -92,17 +92,17 @@ module _ (s : Lent) (requests room : List ℕ) where
         pub can-run : frame_size * (length requests / frame_size) ≤ length requests → CanRun begun requests room (length requests / frame_size)
         can-run l = record { runs = rw free-is (well-formed-runs s well-formed); asked = l; fits = fits }
 
-        no-check : first_of (batch_checks true requests room) ≡ DONE
+        no-check : first_of (batch_checks true requests room) ≡ done_number
         unfolding batch_checks ◌if◌ first_of divides
         no-check = rw (eq-eqb (length requests % frame_size) 0 whole, le-ltb (length room) (answer_size * (length requests / frame_size)) fits)
 
         pub served-as : batch true requests room (free_at s frames) (table_of s)
-            ≡ record { number = DONE; frames = length requests / frame_size; room = answer_bytes (replies s frames) ++ drop (answer_size * (length requests / frame_size)) room; table = table_of (after_all s frames) }
+            ≡ record { number = done_number; frames = length requests / frame_size; room = answer_bytes (replies s frames) ++ drop (answer_size * (length requests / frame_size)) room; table = table_of (after_all s frames) }
         unfolding outcome
         served-as = demand2.batches s requests room well-formed ∙ rw no-check
 
         pub served : (r : Run) (room_after : List ℕ) → progress r room_after ≡ run_from requests (length requests / frame_size) (progress begun room) 0
-            → Batches s (lent_in r) requests room room_after DONE (length requests / frame_size)
+            → Batches s (lent_in r) requests room room_after done_number (length requests / frame_size)
         unfolding state_after
         served r room_after e =
             let all : progress r room_after ≡ progress (serve_all (run_in s) frames).0 (answer_bytes (replies s frames) ++ drop (answer_size * (length requests / frame_size)) room) =

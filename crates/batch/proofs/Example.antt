@@ -5,7 +5,7 @@ use mathlib.Core.List.{List, ◌++◌}
 use Prim.Native.Nat.{ℕ, ◌*◌, ◌≤◌}
 use native.Mathlib.Omega.{arith}
 use lib.ListN.{length, replicate, drop, length-replicate}
-use Rattle.meaning.specs.Limits.{node_cells, program_nodes, answer_size, DONE}
+use Rattle.meaning.specs.Limits.{node_cells, program_nodes, answer_size, done_number}
 use Rattle.meaning.specs.Lent.{Lent, free_nodes}
 use Rattle.meaning.specs.WellFormed.{WellFormed}
 use Rattle.meaning.specs.Batch.{Outcome}
@@ -23,7 +23,7 @@ judged = record { ok = (λ _. state-formed, λ _. refl); free = refl }
 
 -- the number, the count of frames and every byte of the answer room
 pub example-batch : (after : Lent) (room room_after : List ℕ) (number frames : ℕ) → answer_size * 8 ≤ length room → Batches example_state after example_requests room room_after number frames
-    → (number ≡ DONE) × (frames ≡ 8) × (room_after ≡ example_answers ++ drop (answer_size * 8) room)
+    → (number ≡ done_number) × (frames ≡ 8) × (room_after ≡ example_answers ++ drop (answer_size * 8) room)
 unfolding example_requests bytes answers_to
 example-batch after room room_after number frames l x =
     let all = x.plain true judged.ok ∙ served-as example_state example_requests room refl l true _ judged refl in

@@ -6,7 +6,7 @@ use mathlib.Core.List.{List}
 use Prim.Native.Nat.{ℕ, ◌-◌}
 use lib.Dec.{eqb}
 use borrow.Author.Tests.{eq-eqb, ne_eqb, eqb-true}
-use Rattle.meaning.specs.Limits.{NEW, CLONE, RELEASE, LEN, GET, SET, PUSH-BACK, DROP-LAST, OPEN-WALK, NEXT-BACK, CLOSE-WALK, HAND-OVER, FIRST, LAST, COMPARE}
+use Rattle.meaning.specs.Limits.{new_code, clone_code, release_code, len_code, get_code, set_code, push_back_code, drop_last_code, open_walk_code, next_back_code, close_walk_code, hand_over_code, first_code, last_code, compare_code}
 use Rattle.meaning.specs.Lent.{VersionRecord, WalkSlices}
 use Rattle.meaning.specs.Frames.{Frame}
 use Rattle.meaning.specs.Serve.{refused}
@@ -36,75 +36,75 @@ pub sourced-at : (n k : ℕ) → n ≡ k → sourced k ≡ true → sourced n �
 sourced-at n k e p = ap sourced e ∙ p
 
 module _ (n : ℕ) where
-  pub get-sourced : n ≡ GET → sourced n ≡ true
+  pub get-sourced : n ≡ get_code → sourced n ≡ true
   unfolding sourced is_source operations uses anyone
-  get-sourced e = sourced-at n GET e refl
+  get-sourced e = sourced-at n get_code e refl
 
-  pub first-sourced : n ≡ FIRST → sourced n ≡ true
+  pub first-sourced : n ≡ first_code → sourced n ≡ true
   unfolding sourced is_source operations uses anyone
-  first-sourced e = sourced-at n FIRST e refl
+  first-sourced e = sourced-at n first_code e refl
 
-  pub last-sourced : n ≡ LAST → sourced n ≡ true
+  pub last-sourced : n ≡ last_code → sourced n ≡ true
   unfolding sourced is_source operations uses anyone
-  last-sourced e = sourced-at n LAST e refl
+  last-sourced e = sourced-at n last_code e refl
 
-  pub compare-sourced : n ≡ COMPARE → sourced n ≡ true
+  pub compare-sourced : n ≡ compare_code → sourced n ≡ true
   unfolding sourced is_source operations uses anyone
-  compare-sourced e = sourced-at n COMPARE e refl
+  compare-sourced e = sourced-at n compare_code e refl
 
-  pub release-sourced : n ≡ RELEASE → sourced n ≡ true
+  pub release-sourced : n ≡ release_code → sourced n ≡ true
   unfolding sourced is_source operations uses anyone
-  release-sourced e = sourced-at n RELEASE e refl
+  release-sourced e = sourced-at n release_code e refl
 
-  pub edit-sourced : is_edit n ≡ true → n ≢ NEW → sourced n ≡ true
+  pub edit-sourced : is_edit n ≡ true → n ≢ new_code → sourced n ≡ true
   unfolding sourced is_source operations uses anyone host_alone
-  edit-sourced e d = pick (eqb n NEW) (eqb n CLONE) (eqb n SET) (eqb n PUSH-BACK) (eqb n DROP-LAST) (eqb n HAND-OVER) refl refl refl refl refl refl e
+  edit-sourced e d = pick (eqb n new_code) (eqb n clone_code) (eqb n set_code) (eqb n push_back_code) (eqb n drop_last_code) (eqb n hand_over_code) refl refl refl refl refl refl e
     where
-      pick : (a b c d e f : Bool) → eqb n NEW ≡ a → eqb n CLONE ≡ b → eqb n SET ≡ c → eqb n PUSH-BACK ≡ d → eqb n DROP-LAST ≡ e → eqb n HAND-OVER ≡ f
+      pick : (a b c d e f : Bool) → eqb n new_code ≡ a → eqb n clone_code ≡ b → eqb n set_code ≡ c → eqb n push_back_code ≡ d → eqb n drop_last_code ≡ e → eqb n hand_over_code ≡ f
           → a || b || c || d || e || f ≡ true → sourced n ≡ true
-      pick true b c d' x f p1 p2 p3 p4 p5 p6 h = absurd (d (eqb-true n NEW p1))
-      pick false true c d' x f p1 p2 p3 p4 p5 p6 h = sourced-at n CLONE (eqb-true n CLONE p2) refl
-      pick false false true d' x f p1 p2 p3 p4 p5 p6 h = sourced-at n SET (eqb-true n SET p3) refl
-      pick false false false true x f p1 p2 p3 p4 p5 p6 h = sourced-at n PUSH-BACK (eqb-true n PUSH-BACK p4) refl
-      pick false false false false true f p1 p2 p3 p4 p5 p6 h = sourced-at n DROP-LAST (eqb-true n DROP-LAST p5) refl
-      pick false false false false false true p1 p2 p3 p4 p5 p6 h = sourced-at n HAND-OVER (eqb-true n HAND-OVER p6) refl
+      pick true b c d' x f p1 p2 p3 p4 p5 p6 h = absurd (d (eqb-true n new_code p1))
+      pick false true c d' x f p1 p2 p3 p4 p5 p6 h = sourced-at n clone_code (eqb-true n clone_code p2) refl
+      pick false false true d' x f p1 p2 p3 p4 p5 p6 h = sourced-at n set_code (eqb-true n set_code p3) refl
+      pick false false false true x f p1 p2 p3 p4 p5 p6 h = sourced-at n push_back_code (eqb-true n push_back_code p4) refl
+      pick false false false false true f p1 p2 p3 p4 p5 p6 h = sourced-at n drop_last_code (eqb-true n drop_last_code p5) refl
+      pick false false false false false true p1 p2 p3 p4 p5 p6 h = sourced-at n hand_over_code (eqb-true n hand_over_code p6) refl
       pick false false false false false false p1 p2 p3 p4 p5 p6 h = absurd (false≢true h)
 
 -- ---- reads
 
 module _ (cells : List ℕ) (free : ℕ) (f : Frame) (v w old : Version) (r : Served) where
-  pub get-reads : f.operation ≡ GET → (g : Got) → g ≡ got cells v f.index → r ≡ got_with g free old → r ≡ read_with cells free f v w old
+  pub get-reads : f.operation ≡ get_code → (g : Got) → g ≡ got cells v f.index → r ≡ got_with g free old → r ≡ read_with cells free f v w old
   unfolding read_with
-  get-reads t g p q = rw (eq-eqb f.operation GET t) (q ∙ ap (λ (x : Got). got_with x free old) p)
+  get-reads t g p q = rw (eq-eqb f.operation get_code t) (q ∙ ap (λ (x : Got). got_with x free old) p)
 
-  module _ (not_get : f.operation ≢ GET) where
-    pub len-reads : f.operation ≡ LEN → (n : ℕ) → n ≡ v.length → r ≡ answered_with n free old → r ≡ read_with cells free f v w old
+  module _ (not_get : f.operation ≢ get_code) where
+    pub len-reads : f.operation ≡ len_code → (n : ℕ) → n ≡ v.length → r ≡ answered_with n free old → r ≡ read_with cells free f v w old
     unfolding read_with
-    len-reads t n p q = rw (ne_eqb f.operation GET not_get, eq-eqb f.operation LEN t) (q ∙ ap (λ (x : ℕ). answered_with x free old) p)
+    len-reads t n p q = rw (ne_eqb f.operation get_code not_get, eq-eqb f.operation len_code t) (q ∙ ap (λ (x : ℕ). answered_with x free old) p)
 
-    module _ (not_len : f.operation ≢ LEN) where
-      pub first_reads : f.operation ≡ FIRST → (g : Got) → g ≡ got cells v 0 → r ≡ got_with g free old → r ≡ read_with cells free f v w old
+    module _ (not_len : f.operation ≢ len_code) where
+      pub first_reads : f.operation ≡ first_code → (g : Got) → g ≡ got cells v 0 → r ≡ got_with g free old → r ≡ read_with cells free f v w old
       unfolding read_with
-      first_reads t g p q = rw (ne_eqb f.operation GET not_get, ne_eqb f.operation LEN not_len, eq-eqb f.operation FIRST t) (q ∙ ap (λ (x : Got). got_with x free old) p)
+      first_reads t g p q = rw (ne_eqb f.operation get_code not_get, ne_eqb f.operation len_code not_len, eq-eqb f.operation first_code t) (q ∙ ap (λ (x : Got). got_with x free old) p)
 
-      module _ (not_first : f.operation ≢ FIRST) where
-        pub last-reads : f.operation ≡ LAST → (g : Got) → g ≡ got cells v (v.length - 1) → r ≡ got_with g free old → r ≡ read_with cells free f v w old
+      module _ (not_first : f.operation ≢ first_code) where
+        pub last-reads : f.operation ≡ last_code → (g : Got) → g ≡ got cells v (v.length - 1) → r ≡ got_with g free old → r ≡ read_with cells free f v w old
         unfolding read_with
         last-reads t g p q =
-            rw (ne_eqb f.operation GET not_get, ne_eqb f.operation LEN not_len, ne_eqb f.operation FIRST not_first, eq-eqb f.operation LAST t)
+            rw (ne_eqb f.operation get_code not_get, ne_eqb f.operation len_code not_len, ne_eqb f.operation first_code not_first, eq-eqb f.operation last_code t)
             (q ∙ ap (λ (x : Got). got_with x free old) p)
 
-        module _ (not_last : f.operation ≢ LAST) where
-          pub compare-reads : f.operation ≡ COMPARE → (o : Ordering) → o ≡ ordering cells v w → r ≡ ordered_with o free old → r ≡ read_with cells free f v w old
+        module _ (not_last : f.operation ≢ last_code) where
+          pub compare-reads : f.operation ≡ compare_code → (o : Ordering) → o ≡ ordering cells v w → r ≡ ordered_with o free old → r ≡ read_with cells free f v w old
           unfolding read_with
           compare-reads t o p q =
-              rw (ne_eqb f.operation GET not_get, ne_eqb f.operation LEN not_len, ne_eqb f.operation FIRST not_first, ne_eqb f.operation LAST not_last, eq-eqb f.operation COMPARE t)
+              rw (ne_eqb f.operation get_code not_get, ne_eqb f.operation len_code not_len, ne_eqb f.operation first_code not_first, ne_eqb f.operation last_code not_last, eq-eqb f.operation compare_code t)
               (q ∙ ap (λ (x : Ordering). ordered_with x free old) p)
 
-          pub free-reads : f.operation ≢ COMPARE → (n : ℕ) → n ≡ free → r ≡ answered_with n free old → r ≡ read_with cells free f v w old
+          pub free-reads : f.operation ≢ compare_code → (n : ℕ) → n ≡ free → r ≡ answered_with n free old → r ≡ read_with cells free f v w old
           unfolding read_with
           free-reads t n p q =
-              rw (ne_eqb f.operation GET not_get, ne_eqb f.operation LEN not_len, ne_eqb f.operation FIRST not_first, ne_eqb f.operation LAST not_last, ne_eqb f.operation COMPARE t)
+              rw (ne_eqb f.operation get_code not_get, ne_eqb f.operation len_code not_len, ne_eqb f.operation first_code not_first, ne_eqb f.operation last_code not_last, ne_eqb f.operation compare_code t)
               (q ∙ ap (λ (x : ℕ). answered_with x free old) p)
 
 -- ---- walks
@@ -127,15 +127,15 @@ pub steps : (t : Step) (free : ℕ) (old : Version) (walks_after : WalkSlices) (
 steps t free old walks_after g r p q = record { walks = ap (λ (x : Step). x.slices) p; answer = q ∙ ap (λ (x : Step). got_with x.answer free old) p }
 
 module _ (s : Store) (ws : WalkSlices) (f : Frame) (v : VersionRecord) (old : Version) (r : Served) where
-  pub open-acts : (counts numbers : List ℕ) (n : ℕ) → n ≡ opened_place f → f.operation ≡ OPEN-WALK → Opens s.counts ws.numbers s.free n v old counts numbers r
+  pub open-acts : (counts numbers : List ℕ) (n : ℕ) → n ≡ opened_place f → f.operation ≡ open_walk_code → Opens s.counts ws.numbers s.free n v old counts numbers r
       → with_walks (acted_of (record { nodes = s.nodes; counts = counts; order = s.order; free = r.free }) r) (slices numbers ws.nodes ws.indices) ≡ walk_act s ws f v (record_of old)
   unfolding walk_act opened raises
-  open-acts counts numbers n e t o = rw (eq-eqb f.operation OPEN-WALK t, o.answer, o.linked, o.recorded, e)
+  open-acts counts numbers n e t o = rw (eq-eqb f.operation open_walk_code t, o.answer, o.linked, o.recorded, e)
 
-  pub close-acts : (after : Store) (walks_after : WalkSlices) (n : ℕ) → n ≡ used_place f → f.operation ≢ OPEN-WALK → f.operation ≡ CLOSE-WALK → Closes s ws n old after walks_after r
+  pub close-acts : (after : Store) (walks_after : WalkSlices) (n : ℕ) → n ≡ used_place f → f.operation ≢ open_walk_code → f.operation ≡ close_walk_code → Closes s ws n old after walks_after r
       → with_walks (acted_of after r) walks_after ≡ walk_act s ws f v (record_of old)
   unfolding walk_act
-  close-acts after walks_after n e m t o = rw (ne_eqb f.operation OPEN-WALK m, eq-eqb f.operation CLOSE-WALK t, o.answer, o.store, o.walks, e)
+  close-acts after walks_after n e m t o = rw (ne_eqb f.operation open_walk_code m, eq-eqb f.operation close_walk_code t, o.answer, o.store, o.walks, e)
 
   got-answers : (free : ℕ) (g : Got) → acted_of s (got_with g free old) ≡ record { store = s; version = record_of old; answer = answer_of g }
   unfolding answer_of refused
@@ -146,13 +146,13 @@ module _ (s : Store) (ws : WalkSlices) (f : Frame) (v : VersionRecord) (old : Ve
   got-free free (Element x) = refl
   got-free free Nothing = refl
 
-  pub step-acts : (walks_after : WalkSlices) (n : ℕ) → n ≡ used_place f → f.operation ≢ OPEN-WALK → f.operation ≢ CLOSE-WALK
-      → Steps (taken_by s.nodes.cells s.nodes.used (eqb f.operation NEXT-BACK) ws n) s.free old walks_after r
+  pub step-acts : (walks_after : WalkSlices) (n : ℕ) → n ≡ used_place f → f.operation ≢ open_walk_code → f.operation ≢ close_walk_code
+      → Steps (taken_by s.nodes.cells s.nodes.used (eqb f.operation next_back_code) ws n) s.free old walks_after r
       → with_walks (acted_of (record { nodes = s.nodes; counts = s.counts; order = s.order; free = r.free }) r) walks_after ≡ walk_act s ws f v (record_of old)
   unfolding walk_act
   step-acts walks_after n e l m o =
-      let g : Got = (taken_by s.nodes.cells s.nodes.used (eqb f.operation NEXT-BACK) ws n).answer in
-      rw (ne_eqb f.operation OPEN-WALK l, ne_eqb f.operation CLOSE-WALK m, o.answer, o.walks, got-free s.free g, got-answers s.free g, e)
+      let g : Got = (taken_by s.nodes.cells s.nodes.used (eqb f.operation next_back_code) ws n).answer in
+      rw (ne_eqb f.operation open_walk_code l, ne_eqb f.operation close_walk_code m, o.answer, o.walks, got-free s.free g, got-answers s.free g, e)
 
 -- ---- what reads leave as it was
 
@@ -166,7 +166,7 @@ module _ (free : ℕ) (old : Version) where
 
   read-leaves : (cells : List ℕ) (f : Frame) (v w : Version) → Leaves (read_with cells free f v w old)
   unfolding read_with
-  read-leaves cells f v w = by (eqb f.operation GET) (eqb f.operation LEN) (eqb f.operation FIRST) (eqb f.operation LAST) (eqb f.operation COMPARE)
+  read-leaves cells f v w = by (eqb f.operation get_code) (eqb f.operation len_code) (eqb f.operation first_code) (eqb f.operation last_code) (eqb f.operation compare_code)
     where
       by : (a b c d e : Bool)
           → Leaves (cond a (got_with (got cells v f.index) free old) (cond b (answered_with v.length free old) (cond c (got_with (got cells v 0) free old)
@@ -186,16 +186,16 @@ module _ (s : Store) (f : Frame) (v w : Version) (old : Version) where
   edit-stores a t p = rw t p
 
   module _ (not_edit : is_edit f.operation ≡ false) where
-    pub release-stores : (a : Acted) → f.operation ≡ RELEASE → a ≡ released_act s (record_of v) → a ≡ store_act s f (record_of v) (record_of w) (record_of old)
+    pub release-stores : (a : Acted) → f.operation ≡ release_code → a ≡ released_act s (record_of v) → a ≡ store_act s f (record_of v) (record_of w) (record_of old)
     unfolding store_act
-    release-stores a t p = rw (not_edit, eq-eqb f.operation RELEASE t) p
+    release-stores a t p = rw (not_edit, eq-eqb f.operation release_code t) p
 
-    pub read-stores : (r : Served) → f.operation ≢ RELEASE → r ≡ read_with s.nodes.cells s.free f v w old
+    pub read-stores : (r : Served) → f.operation ≢ release_code → r ≡ read_with s.nodes.cells s.free f v w old
         → acted_of (record { nodes = s.nodes; counts = s.counts; order = s.order; free = r.free }) r ≡ store_act s f (record_of v) (record_of w) (record_of old)
     unfolding store_act read_act
     read-stores r t p =
         let (q, o) = read-leaves s.free old s.nodes.cells f v w in
-        rw (not_edit, ne_eqb f.operation RELEASE t, p, q, o)
+        rw (not_edit, ne_eqb f.operation release_code t, p, q, o)
 
 module _ (s : Store) (ws : WalkSlices) (f : Frame) (v w old : VersionRecord) where
   pub act-walks : (a : WalkActed) → is_walk f.operation ≡ true → a ≡ walk_act s ws f v old → a ≡ act s ws f v w old

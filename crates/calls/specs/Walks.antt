@@ -1,6 +1,6 @@
 -- What the operations on walks make of the store and of the walk records.
 use Rattle.std.specs.Prelude.{◌≡◌, ◌≢◌, cond, List, [], ◌∷◌, ℕ, ◌+◌, ◌*◌, ◌%◌, eqb}
-use Rattle.meaning.specs.Limits.{parties, party_walks, OPEN-WALK, NEXT-BACK, CLOSE-WALK, NOTHING-THERE}
+use Rattle.meaning.specs.Limits.{parties, party_walks, open_walk_code, next_back_code, close_walk_code, nothing_there_number}
 use Rattle.meaning.specs.Lent.{VersionRecord, WalkSlices}
 use Rattle.meaning.specs.Frames.{Frame, Answer}
 use Rattle.meaning.specs.Serve.{refused}
@@ -48,9 +48,9 @@ pub record Steps (t : Step) (free : ℕ) (old : Version) (walks_after : WalkSlic
 
 -- what they ask of a state
 pub record OnWalk (s : Store) (ws : WalkSlices) (f : Frame) (v : VersionRecord) : Type 0 where
-  pub opening : f.operation ≡ OPEN-WALK → Linkable s.counts v.root
-  pub closing : f.operation ≡ CLOSE-WALK → Releasable s (version_of_walk ws.numbers (used_place f)).root
-  pub taking : f.operation ≢ OPEN-WALK → f.operation ≢ CLOSE-WALK → Walkable ws.numbers (used_place f)
+  pub opening : f.operation ≡ open_walk_code → Linkable s.counts v.root
+  pub closing : f.operation ≡ close_walk_code → Releasable s (version_of_walk ws.numbers (used_place f)).root
+  pub taking : f.operation ≢ open_walk_code → f.operation ≢ close_walk_code → Walkable ws.numbers (used_place f)
 
 pub record WalkActed : Type 0 where
   pub acted : Acted
@@ -61,15 +61,15 @@ with_walks a ws = record { acted = a; walks = ws }
 
 unfoldable pub answer_of : Got → Answer
 answer_of (Element x) = valued x
-answer_of Nothing = refused NOTHING-THERE
+answer_of Nothing = refused nothing_there_number
 
 abbrev pub acted : Store → VersionRecord → Answer → Acted
 acted s v a = record { store = s; version = v; answer = a }
 
 unfoldable pub walk_act : Store → WalkSlices → Frame → (source old : VersionRecord) → WalkActed
 walk_act s ws f v old =
-    let t = taken_by s.nodes.cells s.nodes.used (eqb f.operation NEXT-BACK) ws (used_place f) in
-    cond (eqb f.operation OPEN-WALK) (with_walks (acted (raised s (v.root ∷ [])) old (valued 0)) (walk.opened ws (opened_place f) v))
-    (cond (eqb f.operation CLOSE-WALK)
+    let t = taken_by s.nodes.cells s.nodes.used (eqb f.operation next_back_code) ws (used_place f) in
+    cond (eqb f.operation open_walk_code) (with_walks (acted (raised s (v.root ∷ [])) old (valued 0)) (walk.opened ws (opened_place f) v))
+    (cond (eqb f.operation close_walk_code)
     (with_walks (acted (sweep.release s (version_of_walk ws.numbers (used_place f)).root) old (valued 0)) (walk.closed ws (used_place f)))
     (with_walks (acted s old (answer_of t.answer)) t.slices))

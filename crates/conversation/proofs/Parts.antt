@@ -4,7 +4,7 @@ use mathlib.Core.Bool.{Bool, true, false, cond}
 use mathlib.Core.List.{List, [], ◌∷◌, ◌++◌}
 use Prim.Native.Nat.{ℕ}
 use lib.Dec.{eqb}
-use Rattle.meaning.specs.Limits.{NOT-A-FRAME}
+use Rattle.meaning.specs.Limits.{not_a_frame_number}
 use Rattle.meaning.specs.Frames.{Answer}
 use Rattle.meaning.specs.Serve.{refused}
 use Rattle.meaning.specs.Program.{Line, frame, other, lines_of, write}
@@ -27,7 +27,7 @@ pub answers-append : (r : Run) (xs ys : List Line) → (talk_on r (xs ++ ys)).1 
 unfolding talk_on
 answers-append r [] ys = refl
 answers-append r (frame f ∷ xs) ys = ap {B = List Answer} (λ as'. (serve r f).1 ∷ as') (answers-append (serve r f).0 xs ys)
-answers-append r (other ∷ xs) ys = ap {B = List Answer} (λ as'. refused NOT-A-FRAME ∷ as') (answers-append r xs ys)
+answers-append r (other ∷ xs) ys = ap {B = List Answer} (λ as'. refused not_a_frame_number ∷ as') (answers-append r xs ys)
 
 -- ---- a piece and what follows it
 
@@ -50,10 +50,10 @@ module _ (r : Run) (line piece rest : List ℕ) where
 -- ---- the end of the input
 
 -- what is begun there is answered 14, unless nothing is
-pub talk-end : (r : Run) (bytes : List ℕ) (len : ℕ) (line : List ℕ) → Keeps bytes len line → (talk_on r (lines_of line [])).1 ≡ cond (eqb len 0) [] (refused NOT-A-FRAME ∷ [])
+pub talk-end : (r : Run) (bytes : List ℕ) (len : ℕ) (line : List ℕ) → Keeps bytes len line → (talk_on r (lines_of line [])).1 ≡ cond (eqb len 0) [] (refused not_a_frame_number ∷ [])
 unfolding talk_on
 talk-end r bytes len line k = rw (lines_end bytes len line k) (by (eqb len 0))
   where
-    by : (o : Bool) → (talk_on r (cond o [] (other ∷ []))).1 ≡ cond o [] (refused NOT-A-FRAME ∷ [])
+    by : (o : Bool) → (talk_on r (cond o [] (other ∷ []))).1 ≡ cond o [] (refused not_a_frame_number ∷ [])
     by true = refl
     by false = refl

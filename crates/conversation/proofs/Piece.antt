@@ -21,7 +21,7 @@ use Rattle.serving.specs.Lending.{frames_in}
 use Rattle.serving.proofs.Serving.{all-serve}
 use Rattle.runs.specs.Runs.{Progress, progress, run_from, CanRun}
 use Rattle.runs.proofs.All.{run-all}
-use Rattle.lines.specs.Lines.{FRAME, whole_lines, frames_marked}
+use Rattle.lines.specs.Lines.{frame_mark, whole_lines, frames_marked}
 use Rattle.lines.specs.Reading.{Reads, CanRead, Bounded, ReadsPiece}
 use Rattle.lines.specs.Printing.{printed, CanPrint, Prints}
 use Rattle.lines.proofs.Marks.{printed-front}
@@ -33,7 +33,7 @@ use Rattle.conversation.proofs.Marked.{marked-state, marked-text}
 counted-most : (marks : List ℕ) → frames_marked marks ≤ length marks
 unfolding frames_marked
 counted-most [] = omega arith
-counted-most (m ∷ ms) = by (eqb m FRAME) (counted-most ms)
+counted-most (m ∷ ms) = by (eqb m frame_mark) (counted-most ms)
   where
     by : (o : Bool) → frames_marked ms ≤ length ms → cond o (suc (frames_marked ms)) (frames_marked ms) ≤ suc (length ms)
     by true p = omega arith

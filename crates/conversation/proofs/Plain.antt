@@ -4,7 +4,7 @@ use mathlib.Core.List.{List, [], ◌∷◌}
 use Prim.Native.Nat.{ℕ, ◌*◌}
 use native.Mathlib.Omega.{arith}
 use lib.ListN.{length}
-use Rattle.meaning.specs.Limits.{node_cells, program_nodes, NOT-A-FRAME}
+use Rattle.meaning.specs.Limits.{node_cells, program_nodes, not_a_frame_number}
 use Rattle.meaning.specs.Fresh.{fresh_state}
 use Rattle.meaning.specs.Table.{Table}
 use Rattle.meaning.specs.Frames.{Answer}
@@ -30,7 +30,7 @@ talk-plain r [] k = refl
 talk-plain r (frame f ∷ ls) k =
     let one = frame-serves r f k in
     rw one.plain (ap {B = List Answer} (λ as'. (serve r f).1 ∷ as') (talk-plain (serve r f).0 ls one.runs))
-talk-plain r (other ∷ ls) k = ap {B = List Answer} (λ as'. refused NOT-A-FRAME ∷ as') (talk-plain r ls k)
+talk-plain r (other ∷ ls) k = ap {B = List Answer} (λ as'. refused not_a_frame_number ∷ as') (talk-plain r ls k)
 
 -- ---- the program
 

@@ -1,6 +1,6 @@
 -- Lines in order on a running state, the nodes that are free when each comes, and the state that the program starts with.
 use Rattle.std.specs.Prelude.{List, [], ◌∷◌, ℕ, zero, suc}
-use Rattle.meaning.specs.Limits.{NOT-A-FRAME, program_nodes}
+use Rattle.meaning.specs.Limits.{not_a_frame_number, program_nodes}
 use Rattle.meaning.specs.Fresh.{fresh_state}
 use Rattle.meaning.specs.Frames.{Answer}
 use Rattle.meaning.specs.Supply.{Supply}
@@ -17,7 +17,7 @@ talk_on r (frame f ∷ ls) =
     let x = serve r f in
     let more = talk_on x.0 ls in
     (more.0, x.1 ∷ more.1)
-talk_on r (other ∷ ls) = let more = talk_on r ls in (more.0, refused NOT-A-FRAME ∷ more.1)
+talk_on r (other ∷ ls) = let more = talk_on r ls in (more.0, refused not_a_frame_number ∷ more.1)
 
 -- the nodes that are free when line n of them comes
 unfoldable pub free_on : Run → List Line → (n : ℕ) → Supply

@@ -6,7 +6,7 @@ use mathlib.Core.List.{List}
 use Prim.Native.Nat.{ℕ}
 use lib.Dec.{eqb}
 use borrow.Author.Tests.{eq-eqb, ne_eqb}
-use Rattle.meaning.specs.Limits.{NEW, CLONE, SET, PUSH-BACK, HAND-OVER}
+use Rattle.meaning.specs.Limits.{new_code, clone_code, set_code, push_back_code, hand_over_code}
 use Rattle.meaning.specs.Lent.{Nodes, VersionRecord, empty_record}
 use Rattle.meaning.specs.Frames.{Frame}
 use Rattle.records.specs.Records.{record_of}
@@ -27,23 +27,23 @@ use Rattle.edits.specs.Edits.{valued, shared_act, released_act, path_act, edit_a
 -- ---- a call of the vector
 
 module _ (s : Store) (f : Frame) (v : VersionRecord) (kinds used counts cells order : List ℕ) (free : ℕ) (e : Edited) (old : Version) (r : Served) (told : r ≡ edited_with e free old) where
-  pub new-acts : f.operation ≡ NEW → called_of kinds used counts cells order free e ≡ new_call s f.index → acted_of (store_of kinds used counts cells order r.free) r ≡ edit_act s f v (record_of old)
+  pub new-acts : f.operation ≡ new_code → called_of kinds used counts cells order free e ≡ new_call s f.index → acted_of (store_of kinds used counts cells order r.free) r ≡ edit_act s f v (record_of old)
   unfolding edit_act
-  new-acts t q = rw (eq-eqb f.operation NEW t) (edited-acts kinds used counts cells order free e old r _ told q)
+  new-acts t q = rw (eq-eqb f.operation new_code t) (edited-acts kinds used counts cells order free e old r _ told q)
 
-  pub set-acts : f.operation ≡ SET → called_of kinds used counts cells order free e ≡ set_call s v f.index f.value → acted_of (store_of kinds used counts cells order r.free) r ≡ path_act s f v (record_of old)
+  pub set-acts : f.operation ≡ set_code → called_of kinds used counts cells order free e ≡ set_call s v f.index f.value → acted_of (store_of kinds used counts cells order r.free) r ≡ path_act s f v (record_of old)
   unfolding path_act
-  set-acts t q = rw (eq-eqb f.operation SET t) (edited-acts kinds used counts cells order free e old r _ told q)
+  set-acts t q = rw (eq-eqb f.operation set_code t) (edited-acts kinds used counts cells order free e old r _ told q)
 
-  pub push-acts : f.operation ≢ SET → f.operation ≡ PUSH-BACK → called_of kinds used counts cells order free e ≡ push_call s v f.value
+  pub push-acts : f.operation ≢ set_code → f.operation ≡ push_back_code → called_of kinds used counts cells order free e ≡ push_call s v f.value
       → acted_of (store_of kinds used counts cells order r.free) r ≡ path_act s f v (record_of old)
   unfolding path_act
-  push-acts n t q = rw (ne_eqb f.operation SET n, eq-eqb f.operation PUSH-BACK t) (edited-acts kinds used counts cells order free e old r _ told q)
+  push-acts n t q = rw (ne_eqb f.operation set_code n, eq-eqb f.operation push_back_code t) (edited-acts kinds used counts cells order free e old r _ told q)
 
-  pub drop-acts : f.operation ≢ SET → f.operation ≢ PUSH-BACK → called_of kinds used counts cells order free e ≡ drop_call s v
+  pub drop-acts : f.operation ≢ set_code → f.operation ≢ push_back_code → called_of kinds used counts cells order free e ≡ drop_call s v
       → acted_of (store_of kinds used counts cells order r.free) r ≡ path_act s f v (record_of old)
   unfolding path_act
-  drop-acts n m q = rw (ne_eqb f.operation SET n, ne_eqb f.operation PUSH-BACK m) (edited-acts kinds used counts cells order free e old r _ told q)
+  drop-acts n m q = rw (ne_eqb f.operation set_code n, ne_eqb f.operation push_back_code m) (edited-acts kinds used counts cells order free e old r _ told q)
 
 -- ---- a link more, a link less
 
@@ -62,11 +62,11 @@ releases s v kinds used counts cells order left w r p q h = rw (h, p, q)
 
 -- ---- which operation
 
-module _ (s : Store) (f : Frame) (v old : VersionRecord) (a : Acted) (n : f.operation ≢ NEW) where
-  pub edit-shares : eqb f.operation CLONE || eqb f.operation HAND-OVER ≡ true → a ≡ shared_act s v → a ≡ edit_act s f v old
+module _ (s : Store) (f : Frame) (v old : VersionRecord) (a : Acted) (n : f.operation ≢ new_code) where
+  pub edit-shares : eqb f.operation clone_code || eqb f.operation hand_over_code ≡ true → a ≡ shared_act s v → a ≡ edit_act s f v old
   unfolding edit_act
-  edit-shares t p = rw (ne_eqb f.operation NEW n, t) p
+  edit-shares t p = rw (ne_eqb f.operation new_code n, t) p
 
-  pub edit-paths : eqb f.operation CLONE || eqb f.operation HAND-OVER ≡ false → a ≡ path_act s f v old → a ≡ edit_act s f v old
+  pub edit-paths : eqb f.operation clone_code || eqb f.operation hand_over_code ≡ false → a ≡ path_act s f v old → a ≡ edit_act s f v old
   unfolding edit_act
-  edit-paths t p = rw (ne_eqb f.operation NEW n, t) p
+  edit-paths t p = rw (ne_eqb f.operation new_code n, t) p

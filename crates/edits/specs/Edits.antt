@@ -1,6 +1,6 @@
 -- What the operations that edit make of the store and of the one version record that they change, in the order in which the code asks for them.
 use Rattle.std.specs.Prelude.{cond, ◌||◌, ℕ, eqb}
-use Rattle.meaning.specs.Limits.{NEW, CLONE, SET, PUSH-BACK, HAND-OVER, DONE}
+use Rattle.meaning.specs.Limits.{new_code, clone_code, set_code, push_back_code, hand_over_code, done_number}
 use Rattle.meaning.specs.Lent.{VersionRecord, empty_record}
 use Rattle.meaning.specs.Frames.{Frame, Answer}
 use Rattle.shape.specs.Legal.{Legal}
@@ -23,7 +23,7 @@ pub record Able (s : Store) (v : VersionRecord) : Type 0 where
 
 -- done, with no fresh node
 abbrev pub valued : (value : ℕ) → Answer
-valued x = record { number = DONE; fresh = 0; value = x }
+valued x = record { number = done_number; fresh = 0; value = x }
 
 unfoldable pub shared_act : Store → VersionRecord → Acted
 shared_act s v = record { store = (share_edit s v).store; version = (share_edit s v).version; answer = valued 0 }
@@ -33,12 +33,12 @@ released_act s v = record { store = sweep.release s v.root; version = empty_reco
 
 unfoldable pub path_act : Store → Frame → (source old : VersionRecord) → Acted
 path_act s f v old =
-    cond (eqb f.operation SET) (edited old (set_call s v f.index f.value))
-    (cond (eqb f.operation PUSH-BACK) (edited old (push_call s v f.value))
+    cond (eqb f.operation set_code) (edited old (set_call s v f.index f.value))
+    (cond (eqb f.operation push_back_code) (edited old (push_call s v f.value))
     (edited old (drop_call s v)))
 
 unfoldable pub edit_act : Store → Frame → (source old : VersionRecord) → Acted
 edit_act s f v old =
-    cond (eqb f.operation NEW) (edited old (new_call s f.index))
-    (cond (eqb f.operation CLONE || eqb f.operation HAND-OVER) (shared_act s v)
+    cond (eqb f.operation new_code) (edited old (new_call s f.index))
+    (cond (eqb f.operation clone_code || eqb f.operation hand_over_code) (shared_act s v)
     (path_act s f v old))

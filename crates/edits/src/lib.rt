@@ -2,7 +2,7 @@
 #![tactic(auto)]
 
 ghost use Rattle.std.specs.Prelude.{◌≡◌, ◌≢◌, List, ℕ};
-ghost use Rattle.meaning.specs.Limits.{NEW};
+ghost use Rattle.meaning.specs.Limits.{new_code};
 ghost use Rattle.meaning.specs.Lent.{Nodes};
 ghost use Rattle.records.specs.Records.{record_of};
 ghost use Rattle.store.specs.Store.{store_of};
@@ -68,7 +68,7 @@ pub fn edit(
     old: Version,
 ) -> Served
     requires steady { Steady (store_of kinds.old used.old counts.old cells.old order.now supply.free) }
-    requires able { f.operation ≢ NEW → Able (store_of kinds.old used.old counts.old cells.old order.now supply.free) (record_of v) }
+    requires able { f.operation ≢ new_code → Able (store_of kinds.old used.old counts.old cells.old order.now supply.free) (record_of v) }
     ensures { acted_of (store_of kinds.new used.new counts.new cells.new order.now result.free) result
         ≡ edit_act (store_of kinds.old used.old counts.old cells.old order.now supply.free) (frame_of f) (record_of v) (record_of old) }
 {

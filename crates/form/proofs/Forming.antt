@@ -5,7 +5,7 @@ use mathlib.Core.List.{List, ◌∷◌}
 use Prim.Native.Nat.{ℕ, zero, suc}
 use lib.IntN.{ℤ, pos}
 use lib.ListN.{length, replicate}
-use Rattle.meaning.specs.Limits.{version_count, DONE, ILL-FORMED}
+use Rattle.meaning.specs.Limits.{version_count, done_number, ill_formed_number}
 use Rattle.meaning.specs.Lent.{VersionRecord, empty_record, Lent, size}
 use Rattle.meaning.specs.WellFormed.{SizesFit, WellFormed}
 use Rattle.meaning.specs.Fresh.{down_from, fresh_state}
@@ -27,7 +27,7 @@ pub fresh-is : (s : Lent) (k u c o : List ℕ) (v : List VersionRecord) (a b : L
     → (k ≡ zeros s.nodes.kinds) × (u ≡ zeros s.nodes.used) × (c ≡ zeros s.counts) × (o ≡ down_from (length s.order))
     → v ≡ replicate version_count empty_record
     → (a ≡ zeros s.walks.numbers) × (b ≡ zeros s.walks.nodes) × (i ≡ replicate (length s.walks.indices) (pos 0))
-    → Forms s (lent_of (nodes_of k u s.nodes.cells) c o v (walks_of a b i)) DONE
+    → Forms s (lent_of (nodes_of k u s.nodes.cells) c o v (walks_of a b i)) done_number
 unfolding fresh_state
 fresh-is s k u c o v a b i fit n t w = record {
   fits = λ _. (refl, same);
@@ -38,7 +38,7 @@ fresh-is s k u c o v a b i fit n t w = record {
     same = rw (n.0, n.1, n.2, n.3, t, w.0, w.1, w.2, fit.used, fit.counts, fit.order, fit.walk_numbers, fit.walk_nodes, fit.walk_indices)
 
 -- nothing is written
-pub refused-is : (s : Lent) (o : Bool) → o ≡ lengths s → o ≡ false → Forms s s ILL-FORMED
+pub refused-is : (s : Lent) (o : Bool) → o ≡ lengths s → o ≡ false → Forms s s ill_formed_number
 refused-is s o p e = record { fits = λ fit. absurd (lengths-unfit s o p e fit); refuses = λ _. (refl, refl) }
 
 -- what is formed is well-formed

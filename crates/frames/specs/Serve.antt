@@ -1,6 +1,6 @@
 -- What a frame makes of a running state, exact to the last cell, and what it is answered.
 use Rattle.std.specs.Prelude.{Bool, true, false, List, [], ◌∷◌, ℕ, zero, suc, ◌-◌, set}
-use Rattle.meaning.specs.Limits.{DONE}
+use Rattle.meaning.specs.Limits.{done_number}
 use Rattle.meaning.specs.Lent.{VersionRecord, empty_record, WalkSlices}
 use Rattle.meaning.specs.Trees.{height_of, element, contents}
 use Rattle.meaning.specs.Frames.{Frame, Answer}
@@ -88,7 +88,7 @@ unfoldable pub fresh_in : Run → Run → ℕ
 fresh_in before after = before.store.free - after.store.free
 
 unfoldable pub respond : (number : ℕ) → Run → Served → Run × Answer
-respond zero r d = (d.run, record { number = DONE; fresh = fresh_in r d.run; value = d.value })
+respond zero r d = (d.run, record { number = done_number; fresh = fresh_in r d.run; value = d.value })
 respond (suc n) r d = (r, refused (suc n))
 
 unfoldable pub serve : Run → Frame → Run × Answer

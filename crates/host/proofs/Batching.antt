@@ -7,7 +7,7 @@ use Prim.Native.Nat.{ℕ, zero, suc, ◌*◌, ◌/◌, ◌%◌}
 use lib.Dec.{T as Holds, eqb, eqb→eq, ltb, ltb→lt, nltb→le}
 use lib.ListN.{length}
 use borrow.Author.Tests.{eq-eqb}
-use Rattle.meaning.specs.Limits.{frame_size, answer_size, DONE}
+use Rattle.meaning.specs.Limits.{frame_size, answer_size, done_number}
 use Rattle.meaning.specs.Lent.{Lent}
 use Rattle.meaning.specs.WellFormed.{WellFormed}
 use Rattle.audit.specs.Audited.{Judged}
@@ -50,7 +50,7 @@ batch-done count s after requests room room_after number frames vs e f = record 
 
 -- ---- of the records
 
-unchanged : (s after : Lent) (requests room room_after : List ℕ) (number frames : ℕ) → Batches s after requests room room_after number frames → number ≢ DONE → after ≡ s
+unchanged : (s after : Lent) (requests room room_after : List ℕ) (number frames : ℕ) → Batches s after requests room room_after number frames → number ≢ done_number → after ≡ s
 unfolding state_after
 unchanged s after requests room room_after zero frames f n = absurd (n refl)
 unchanged s after requests room room_after (suc m) frames f n = f.state

@@ -7,7 +7,7 @@ use Prim.Native.Nat.{ℕ}
 use lib.Dec.{eqb}
 use lib.ListN.{length, length-map}
 use borrow.Author.Tests.{eq-eqb}
-use Rattle.meaning.specs.Limits.{DONE}
+use Rattle.meaning.specs.Limits.{done_number}
 use Rattle.meaning.specs.Lent.{VersionRecord, Lent}
 use Rattle.records.specs.declared.Version.{Version}
 use Rattle.records.specs.Records.{record_of, records_of}
@@ -47,20 +47,20 @@ module _ (P : Lent → Lent → Type 0) (s after : Lent) (ys vs : List Version) 
   settled_at false h p = subst (P s) (h refl ∙ same_start ∙ ap (λ (x : Lent). holding x (records_of ys)) (sym (h refl))) p
 
   -- the table is stored if the number is 0
-  settled-by : (number : ℕ) → (number ≢ DONE → after ≡ s) → P s after → P (holding s (records_of ys)) (holding after (records_of (cond (eqb number DONE) vs ys)))
+  settled-by : (number : ℕ) → (number ≢ done_number → after ≡ s) → P s after → P (holding s (records_of ys)) (holding after (records_of (cond (eqb number done_number) vs ys)))
   settled-by n h p =
-      subst (λ (x : Lent). P x (holding after (records_of (cond (eqb n DONE) vs ys)))) same_start
-      (settled_at (eqb n DONE) (λ e. h (λ z. false≢true (sym e ∙ eq-eqb n DONE z))) p)
+      subst (λ (x : Lent). P x (holding after (records_of (cond (eqb n done_number) vs ys)))) same_start
+      (settled_at (eqb n done_number) (λ e. h (λ z. false≢true (sym e ∙ eq-eqb n done_number z))) p)
 
 -- of a table and the records that it was copied from, where these are 64
 module _ (ys table us : List Version) (s after : Lent) (r : Done) (copied : table ≡ table_of ys) (before : s.versions ≡ records_of table) (at-end : after.versions ≡ records_of r.versions)
-    (stores : r.stores ≡ eqb r.report.number DONE) (back : us ≡ stored r.stores r.versions ys) where
-  pub settled-whole : (P : Lent → Lent → Type 0) → eqb (length ys) 64 ≡ true → (r.report.number ≢ DONE → after ≡ s) → P s after → P (holding s (records_of ys)) (holding after (records_of us))
+    (stores : r.stores ≡ eqb r.report.number done_number) (back : us ≡ stored r.stores r.versions ys) where
+  pub settled-whole : (P : Lent → Lent → Type 0) → eqb (length ys) 64 ≡ true → (r.report.number ≢ done_number → after ≡ s) → P s after → P (holding s (records_of ys)) (holding after (records_of us))
   settled-whole P e h p =
       subst (λ (l : List Version). P (holding s (records_of ys)) (holding after (records_of l))) (sym us-is)
       (settled-by P s after ys r.versions (before ∙ ap records_of (copied ∙ whole-table ys e)) at-end r.report.number h p)
     where
-      us-is : us ≡ cond (eqb r.report.number DONE) r.versions ys
+      us-is : us ≡ cond (eqb r.report.number done_number) r.versions ys
       us-is = back ∙ whole-stored r.stores r.versions ys e ∙ ap (λ (t : Bool). cond t r.versions ys) stores
 
   -- where they are not, nothing changed

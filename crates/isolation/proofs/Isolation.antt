@@ -7,7 +7,7 @@ use native.Mathlib.Omega.{arith}
 use lib.Dec.{eqb}
 use lib.ListN.{length, get_or, length-set}
 use lib.Seq.{get_or-set_same, get_or-set_other, ext_get_or}
-use Rattle.meaning.specs.Limits.{last_party, NO-NODES}
+use Rattle.meaning.specs.Limits.{last_party, no_nodes_number}
 use Rattle.meaning.specs.Table.{Table, party_at, fresh_party}
 use Rattle.meaning.specs.Counting.{Each}
 use Rattle.meaning.specs.Frames.{Frame, Answer}
@@ -82,7 +82,7 @@ unfolding run strike_out keep
 each_left [] t h = tt
 each_left (c ∷ cs) t h =
     let r = serve c.supply c.frame t in
-    pick (not (eqb r.1.number NO-NODES)) r.1 (strike_out (run cs r.0).1) (each_left cs r.0 h.1)
+    pick (not (eqb r.1.number no_nodes_number)) r.1 (strike_out (run cs r.0).1) (each_left cs r.0 h.1)
   where
     pick : (b : Bool) (x : Answer) (xs : List Reply) → Each Own (frames_asked xs) → Each Own (frames_asked (cond b (record { frame = c.frame; answer = x } ∷ xs) xs))
     pick true x xs k = (h.0, k)

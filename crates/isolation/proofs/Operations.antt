@@ -7,27 +7,27 @@ use native.Mathlib.Decide.{dec_lt}
 use native.Mathlib.Omega.{arith}
 use lib.Dec.{T, eqb, eqb→eq}
 use lib.ListN.{get_or, get_or-eq_default}
-use Rattle.meaning.specs.Limits.{NEW, CLONE, RELEASE, LEN, GET, SET, PUSH-BACK, DROP-LAST, OPEN-WALK, NEXT, NEXT-BACK, CLOSE-WALK, HAND-OVER, FREE-NODES, FIRST, LAST, COMPARE, last_operation}
+use Rattle.meaning.specs.Limits.{new_code, clone_code, release_code, len_code, get_code, set_code, push_back_code, drop_last_code, open_walk_code, next_code, next_back_code, close_walk_code, hand_over_code, free_nodes_code, first_code, last_code, compare_code, last_operation}
 use Rattle.meaning.specs.Operations.{Op, new, clone, release, len, get, set_at, push_back, drop_last, open_walk, next, next_back, close_walk, hand_over, free_nodes, first, last, compare, unknown, operations}
 
 unfoldable pub code : Op → ℕ
-code new = NEW
-code clone = CLONE
-code release = RELEASE
-code len = LEN
-code get = GET
-code set_at = SET
-code push_back = PUSH-BACK
-code drop_last = DROP-LAST
-code open_walk = OPEN-WALK
-code next = NEXT
-code next_back = NEXT-BACK
-code close_walk = CLOSE-WALK
-code hand_over = HAND-OVER
-code free_nodes = FREE-NODES
-code first = FIRST
-code last = LAST
-code compare = COMPARE
+code new = new_code
+code clone = clone_code
+code release = release_code
+code len = len_code
+code get = get_code
+code set_at = set_code
+code push_back = push_back_code
+code drop_last = drop_last_code
+code open_walk = open_walk_code
+code next = next_code
+code next_back = next_back_code
+code close_walk = close_walk_code
+code hand_over = hand_over_code
+code free_nodes = free_nodes_code
+code first = first_code
+code last = last_code
+code compare = compare_code
 code unknown = 0x100
 
 -- the test passes for every number below n

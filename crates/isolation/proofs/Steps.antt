@@ -7,7 +7,7 @@ use Prim.Native.Nat.{ℕ, zero, suc}
 use native.Mathlib.Omega.{arith}
 use lib.ListN.{set}
 use lib.Seq.{set-get_or}
-use Rattle.meaning.specs.Limits.{DONE, NO-NODES}
+use Rattle.meaning.specs.Limits.{done_number, no_nodes_number}
 use Rattle.meaning.specs.Table.{Version, Party, Table, party_at, fresh_party}
 use Rattle.meaning.specs.Frames.{Frame, Answer}
 use Rattle.meaning.specs.Operations.{Op, new, clone, release, len, get, set_at, push_back, drop_last, open_walk, next, next_back, close_walk, hand_over, free_nodes, first, last, compare, unknown, op_of, anyone, uses, owner_or, giver, taker}
@@ -55,9 +55,9 @@ last-check (c ∷ l) n b h = pick c.applies (last-check l n b) h
     pick true ih k = refl
     pick false ih k = ih k
 
-checks-unlimited : (o : Op) (s : Supply) (f : Frame) (x : Seen) → first_of (checks o s f x) ≢ NO-NODES → first_of (checks o s f x) ≡ first_of (checks o no_limit f x)
+checks-unlimited : (o : Op) (s : Supply) (f : Frame) (x : Seen) → first_of (checks o s f x) ≢ no_nodes_number → first_of (checks o s f x) ≡ first_of (checks o no_limit f x)
 unfolding checks nodes_check is_short
-checks-unlimited o s f x h = last-check (earlier_checks o f x) NO-NODES (is_short s.spend (cost o x.bits x.length).charge) h
+checks-unlimited o s f x h = last-check (earlier_checks o f x) no_nodes_number (is_short s.spend (cost o x.bits x.length).charge) h
 
 effect-unlimited : (o : Op) → o ≢ free_nodes → (s : Supply) (f : Frame) (v : Version) (w : List ℕ) (t : Party) → effect o s f v w t ≡ effect o no_limit f v w t
 unfolding effect
@@ -80,14 +80,14 @@ effect-unlimited last h s f v w t = refl
 effect-unlimited compare h s f v w t = refl
 effect-unlimited unknown h s f v w t = refl
 
-pub step-unlimited : (s : Supply) (f : Frame) (g t : Party) → op_of f ≢ free_nodes → (step s f g t).1.number ≢ NO-NODES → step s f g t ≡ step no_limit f g t
+pub step-unlimited : (s : Supply) (f : Frame) (g t : Party) → op_of f ≢ free_nodes → (step s f g t).1.number ≢ no_nodes_number → step s f g t ≡ step no_limit f g t
 unfolding step
 step-unlimited s f g t o h =
-    ap₂ (λ (n : ℕ) (e : Party × ℕ). respond n t (e.0, record { number = DONE; fresh = (cost (op_of f) (seen_by f g t).bits (seen_by f g t).length).fresh; value = e.1 }))
+    ap₂ (λ (n : ℕ) (e : Party × ℕ). respond n t (e.0, record { number = done_number; fresh = (cost (op_of f) (seen_by f g t).bits (seen_by f g t).length).fresh; value = e.1 }))
     (checks-unlimited (op_of f) s f (seen_by f g t) (λ e. h (step-number s f g t ∙ e)))
     (effect-unlimited (op_of f) o s f (source_of g f) (left_of g f) t)
 
-pub serve-unlimited : (s : Supply) (f : Frame) (t : Table) → op_of f ≢ free_nodes → (serve s f t).1.number ≢ NO-NODES → serve s f t ≡ serve no_limit f t
+pub serve-unlimited : (s : Supply) (f : Frame) (t : Table) → op_of f ≢ free_nodes → (serve s f t).1.number ≢ no_nodes_number → serve s f t ≡ serve no_limit f t
 unfolding serve
 serve-unlimited s f t o h = rw (step-unlimited s f _ _ o h)
 

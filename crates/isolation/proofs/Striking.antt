@@ -6,7 +6,7 @@ use mathlib.Core.List.{List, [], ◌∷◌}
 use native.Mathlib.Omega.{arith}
 use lib.Dec.{eqb}
 use borrow.Author.Tests.{eqb-true, eqb-false}
-use Rattle.meaning.specs.Limits.{NO-NODES}
+use Rattle.meaning.specs.Limits.{no_nodes_number}
 use Rattle.meaning.specs.Table.{Table}
 use Rattle.meaning.specs.Counting.{Each}
 use Rattle.meaning.specs.Frames.{Answer}
@@ -20,7 +20,7 @@ pub run-struck : (cs : List Call) (t : Table) → Each (λ (c : Call). op_of c.f
     → run (without_limit (frames_asked (strike_out (run cs t).1))) t ≡ ((run cs t).0, strike_out (run cs t).1)
 unfolding run strike_out keep
 run-struck [] t h = refl
-run-struck (c ∷ cs) t h = pick (eqb r.1.number NO-NODES) refl (run-struck cs r.0 h.1)
+run-struck (c ∷ cs) t h = pick (eqb r.1.number no_nodes_number) refl (run-struck cs r.0 h.1)
   where
     r : Table × Answer
     r = serve c.supply c.frame t
@@ -34,11 +34,11 @@ run-struck (c ∷ cs) t h = pick (eqb r.1.number NO-NODES) refl (run-struck cs r
     kept : List Reply
     kept = strike_out more.1
 
-    pick : (b : Bool) → eqb r.1.number NO-NODES ≡ b
+    pick : (b : Bool) → eqb r.1.number no_nodes_number ≡ b
         → run (without_limit (frames_asked kept)) r.0 ≡ (more.0, kept)
         → run (without_limit (frames_asked (cond (not b) (reply ∷ kept) kept))) t ≡ (more.0, cond (not b) (reply ∷ kept) kept)
     pick true e ih =
-        let n : r.1.number ≡ NO-NODES = eqb-true _ _ e in
+        let n : r.1.number ≡ no_nodes_number = eqb-true _ _ e in
         let same : r.0 ≡ t = serve-refused c.supply c.frame t (omega arith) in
         ap (λ (x : Table). run (without_limit (frames_asked kept)) x) (sym same) ∙ ih
     pick false e ih =

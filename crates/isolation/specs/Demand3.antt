@@ -1,6 +1,6 @@
 -- Demand 3: what a party is answered, and what it has in the end, does not depend on what other parties do. The statement.
 use Rattle.std.specs.Prelude.{◌≡◌, ◌≢◌, Bool, cond, not, List, [], ◌∷◌, ◌++◌, map, ℕ, zero, suc, ◌≤◌, eqb, length}
-use Rattle.meaning.specs.Limits.{last_party, NO-NODES}
+use Rattle.meaning.specs.Limits.{last_party, no_nodes_number}
 use Rattle.meaning.specs.Table.{Table}
 use Rattle.meaning.specs.Frames.{Frame, Answer}
 use Rattle.meaning.specs.Counting.{Each}
@@ -27,7 +27,7 @@ answers_to p rs = map (λ (r : Reply). r.answer) (keep (λ (r : Reply). eqb r.fr
 -- the frames answered 10 are struck out
 unfoldable pub strike_out : List Reply → List Reply
 unfolding keep
-strike_out rs = keep (λ (r : Reply). not (eqb r.answer.number NO-NODES)) rs
+strike_out rs = keep (λ (r : Reply). not (eqb r.answer.number no_nodes_number)) rs
 
 abbrev pub frames_asked : List Reply → List Frame
 frames_asked rs = map (λ (r : Reply). r.frame) rs

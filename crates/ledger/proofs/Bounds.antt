@@ -9,7 +9,7 @@ use native.Mathlib.Omega.{arith}
 use lib.Dec.{ltb}
 use lib.ListN.{length, take}
 use borrow.Author.Tests.{lt-ltb}
-use Rattle.meaning.specs.Limits.{max_nodes, node_cells, FREE, BRANCH, word_width}
+use Rattle.meaning.specs.Limits.{max_nodes, node_cells, free_kind, branch_kind, word_width}
 use Rattle.meaning.specs.Counting.{bit, how_many, occurrences}
 use Rattle.meaning.specs.Lent.{kind_of, used_of, cell_of}
 use Rattle.store.specs.Store.{Store, node_count}
@@ -31,13 +31,13 @@ module _ {s : Store} {roots pending : List ℕ} (k : Keeping s roots pending) wh
 
   -- ---- branches
 
-  pub branch_fits : (m : ℕ) → kind_of s.nodes m ≡ BRANCH → used_of s.nodes m ≤ node_cells
+  pub branch_fits : (m : ℕ) → kind_of s.nodes m ≡ branch_kind → used_of s.nodes m ≤ node_cells
   branch_fits m e = k.fits m (λ d. lt_irrefl zero (omega arith))
 
-  pub child-used : (m i : ℕ) → kind_of s.nodes m ≡ BRANCH → i < used_of s.nodes m → kind_of s.nodes (cell_of s.nodes m i) ≢ FREE
+  pub child-used : (m i : ℕ) → kind_of s.nodes m ≡ branch_kind → i < used_of s.nodes m → kind_of s.nodes (cell_of s.nodes m i) ≢ free_kind
   child-used m i e l = k.celled m (cell_of s.nodes m i) (child-linked s.nodes m i e l)
 
-  pub child-inside : (m i : ℕ) → kind_of s.nodes m ≡ BRANCH → i < used_of s.nodes m → cell_of s.nodes m i < node_count s
+  pub child-inside : (m i : ℕ) → kind_of s.nodes m ≡ branch_kind → i < used_of s.nodes m → cell_of s.nodes m i < node_count s
   child-inside m i e l = used-inside s.nodes (cell_of s.nodes m i) (child-used m i e l)
 
   -- ---- room on the free order

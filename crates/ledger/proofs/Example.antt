@@ -2,7 +2,7 @@
 use mathlib.Core.Path.{◌≡◌, refl}
 use mathlib.Core.List.{[], ◌∷◌}
 use lib.ListN.{take}
-use Rattle.meaning.specs.Limits.{FREE, LEAF, BRANCH}
+use Rattle.meaning.specs.Limits.{free_kind, leaf_kind, branch_kind}
 use Rattle.meaning.specs.Links.{roots}
 use Rattle.meaning.proofs.Shared.{opened, shared, shared-well-formed}
 use Rattle.cells.specs.Cells.{cells_of}
@@ -28,7 +28,7 @@ unfolding opened after
 after-keeps = release-keeps shared_keeps
 
 -- the branch and its own leaf are free; the leaf that both versions had has one link left
-pub after_is : (after.nodes.kinds ≡ LEAF ∷ FREE ∷ FREE ∷ LEAF ∷ BRANCH ∷ FREE ∷ FREE ∷ [])
+pub after_is : (after.nodes.kinds ≡ leaf_kind ∷ free_kind ∷ free_kind ∷ leaf_kind ∷ branch_kind ∷ free_kind ∷ free_kind ∷ [])
     × (after.counts ≡ 1 ∷ 0 ∷ 0 ∷ 1 ∷ 2 ∷ 0 ∷ 0 ∷ [])
     × (take after.free after.order ≡ 6 ∷ 5 ∷ 2 ∷ 1 ∷ [])
 unfolding opened after lower_from lower lowers vacate scan sweep release children_of cells_of

@@ -8,7 +8,7 @@ use native.Mathlib.Decide.{ℕ_discrete, dec_lt}
 use native.Mathlib.Omega.{arith}
 use lib.ListN.{take, get_or-eq_default}
 use lib.Seq.{length-take-le}
-use Rattle.meaning.specs.Limits.{node_cells, FREE, BRANCH}
+use Rattle.meaning.specs.Limits.{node_cells, free_kind, branch_kind}
 use Rattle.meaning.specs.Counting.{sum_to, occurrences}
 use Rattle.meaning.specs.Lent.{kind_of, is_free, child_count}
 use Rattle.meaning.specs.Links.{cell_links}
@@ -22,28 +22,28 @@ module _ {s : Store} {roots pending : List ℕ} (k : Keeping s roots pending) wh
   -- ---- nodes
 
   pub children-le : (m : ℕ) → child_count s.nodes m ≤ node_cells
-  children-le m = pick (ℕ_discrete (kind_of s.nodes m) BRANCH)
+  children-le m = pick (ℕ_discrete (kind_of s.nodes m) branch_kind)
     where
-      pick : Dec (kind_of s.nodes m ≡ BRANCH) → child_count s.nodes m ≤ node_cells
+      pick : Dec (kind_of s.nodes m ≡ branch_kind) → child_count s.nodes m ≤ node_cells
       pick (yes e) = omega (arith, branch-count s.nodes m e, k.fits m (λ d. lt_irrefl zero (omega arith)))
       pick (no f) = omega (arith, other-count s.nodes m f)
 
   -- nothing links a free node, nor a number that is no node's
-  pub free-unrooted : (n : ℕ) → kind_of s.nodes n ≡ FREE → occurrences n roots ≡ 0
+  pub free-unrooted : (n : ℕ) → kind_of s.nodes n ≡ free_kind → occurrences n roots ≡ 0
   free-unrooted n e = pick (eq-zero-or-pos (occurrences n roots))
     where
       pick : (occurrences n roots ≡ 0) ⊎ (0 < occurrences n roots) → occurrences n roots ≡ 0
       pick (inl q) = q
       pick (inr q) = absurd (k.rooted n q e)
 
-  pub free-uncelled : (m n : ℕ) → kind_of s.nodes n ≡ FREE → cell_links s.nodes m n ≡ 0
+  pub free-uncelled : (m n : ℕ) → kind_of s.nodes n ≡ free_kind → cell_links s.nodes m n ≡ 0
   free-uncelled m n e = pick (eq-zero-or-pos (cell_links s.nodes m n))
     where
       pick : (cell_links s.nodes m n ≡ 0) ⊎ (0 < cell_links s.nodes m n) → cell_links s.nodes m n ≡ 0
       pick (inl q) = q
       pick (inr q) = absurd (k.celled m n q e)
 
-  pub free-unlinked : (n : ℕ) → kind_of s.nodes n ≡ FREE → links_in s n ≡ 0
+  pub free-unlinked : (n : ℕ) → kind_of s.nodes n ≡ free_kind → links_in s n ≡ 0
   free-unlinked n e = sum-none (node_count s) _ (λ m _. free-uncelled m n e)
 
   pub count_past : (n : ℕ) → node_count s ≤ n → count_in s n ≡ 0
@@ -79,7 +79,7 @@ module _ {s : Store} {roots pending : List ℕ} (k : Keeping s roots pending) wh
       pick (inr q) = omega (arith, k.ordered n, used-bit s.nodes n (k.pending_used n q), k.pending_once n)
 
   -- a node that is linked is in use, neither pending nor on the free order
-  pub counted-used : (n : ℕ) → 1 ≤ count_in s n → kind_of s.nodes n ≢ FREE
+  pub counted-used : (n : ℕ) → 1 ≤ count_in s n → kind_of s.nodes n ≢ free_kind
   counted-used n l e = lt_irrefl zero (omega (arith, k.free_count n e))
 
   pub counted-settled : (n : ℕ) → 1 ≤ count_in s n → occurrences n pending ≡ 0

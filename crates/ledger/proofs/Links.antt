@@ -7,7 +7,7 @@ use native.Mathlib.Omega.{arith}
 use lib.Dec.{eqb}
 use lib.ListN.{length, take}
 use lib.Seq.{get_or-set_same}
-use Rattle.meaning.specs.Limits.{node_cells, FREE, BRANCH}
+use Rattle.meaning.specs.Limits.{node_cells, free_kind, branch_kind}
 use Rattle.meaning.specs.Counting.{sum_to, bit, how_many, occurrences}
 use Rattle.meaning.specs.Lent.{Nodes, child_count}
 use Rattle.meaning.specs.Links.{cell_links}
@@ -47,9 +47,9 @@ sum-but s t N m n l fits e =
 
 module _ (s : Nodes) (m k u : ℕ) (a : List ℕ) (whole : length a ≡ node_cells) (fits : node_cells * m + node_cells ≤ length s.cells) where
   -- a branch links its first u cells
-  pub write-links : (n : ℕ) → m < length s.kinds → m < length s.used → k ≡ BRANCH → u ≤ node_cells
+  pub write-links : (n : ℕ) → m < length s.kinds → m < length s.used → k ≡ branch_kind → u ≤ node_cells
       → cell_links (write_node s m k u a) m n ≡ occurrences n (take u a)
   unfolding cell_links child_count how_many write_node
   write-links n lk lu e lc =
-      rw (get_or-set_same s.kinds m k FREE lk, get_or-set_same s.used m u 0 lu, e)
+      rw (get_or-set_same s.kinds m k free_kind lk, get_or-set_same s.used m u 0 lu, e)
       (sum_same u _ _ (λ i l. ap (λ (x : ℕ). bit (eqb x n)) (write_cell s m k u a whole fits i (omega arith))) ∙ sym (occurs-take n u a (omega arith)))

@@ -10,7 +10,7 @@ use native.Mathlib.Omega.{arith}
 use lib.Dec.{eqb}
 use lib.ListN.{length, get_or, set, take, length-set}
 use lib.Seq.{get_or-set_same, get_or-set_other, take-suc-set, drop-append-le, length-take-le}
-use Rattle.meaning.specs.Limits.{FREE}
+use Rattle.meaning.specs.Limits.{free_kind}
 use Rattle.meaning.specs.Counting.{bit, occurrences}
 use Rattle.meaning.specs.Lent.{kind_of}
 use Rattle.meaning.proofs.Lists.{occurs-append}
@@ -58,7 +58,7 @@ lowers-once {s} {n} {free} {counts} {order} {fell} {roots} {pending} k l = recor
     held : 1 ≤ count_in s n
     held = omega (arith, k.counted n (used-inside s.nodes n (k.rooted n (occurs-first n roots))), occurs-first n roots)
 
-    linked : (m : ℕ) → kind_of s.nodes m ≢ FREE → Dec (n ≡ m) → 1 ≤ get_or counts m 0 + occurrences m (pending ++ fell)
+    linked : (m : ℕ) → kind_of s.nodes m ≢ free_kind → Dec (n ≡ m) → 1 ≤ get_or counts m 0 + occurrences m (pending ++ fell)
     linked m f (yes e) = rw (← e) (omega (arith, l.last, occurs-append n pending fell))
     linked m f (no g) = omega (arith, k.linked m f, l.count m, bit-other n m g, occurs-append m pending fell)
 
@@ -66,7 +66,7 @@ lowers-once {s} {n} {free} {counts} {order} {fell} {roots} {pending} k l = recor
     once m (yes e) = rw (← e) (omega (arith, counted-settled k n held, l.one n, bit-same n, occurs-append n pending fell))
     once m (no g) = omega (arith, k.pending_once m, l.one m, bit-other n m g, occurs-append m pending fell)
 
-    pick : (m : ℕ) → 1 ≤ occurrences m (pending ++ fell) → Dec (n ≡ m) → (kind_of s.nodes m ≢ FREE) × (get_or counts m 0 ≡ 0)
+    pick : (m : ℕ) → 1 ≤ occurrences m (pending ++ fell) → Dec (n ≡ m) → (kind_of s.nodes m ≢ free_kind) × (get_or counts m 0 ≡ 0)
     pick m b (yes e) =
         let b' : 1 ≤ occurrences n fell = omega (arith, rw (← e) at b, counted-settled k n held, occurs-append n pending fell) in
         rw (← e) (k.rooted n (occurs-first n roots), l.gone n b')

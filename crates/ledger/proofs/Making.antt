@@ -11,7 +11,7 @@ use lib.Dec.{eqb}
 use lib.ListN.{get_or, take, length-set}
 use lib.Seq.{get_or-set_same, get_or-set_other}
 use borrow.Author.Tests.{eq-eqb, ne_eqb}
-use Rattle.meaning.specs.Limits.{node_cells, FREE, LEAF, BRANCH}
+use Rattle.meaning.specs.Limits.{node_cells, free_kind, leaf_kind, branch_kind}
 use Rattle.meaning.specs.Counting.{sum_to, bit, occurrences}
 use Rattle.meaning.specs.Lent.{kind_of, used_of, cell_of, is_free}
 use Rattle.meaning.specs.Links.{cell_links}
@@ -57,7 +57,7 @@ module _ {s : Store} (kind : ℕ) {u : ℕ} {a old : List ℕ} (k : Kept s old) 
 
   pub make-kind : kind_of (make s kind u a).nodes (top s) ≡ kind
   unfolding make write_node
-  make-kind = get_or-set_same s.nodes.kinds (top s) kind FREE inside
+  make-kind = get_or-set_same s.nodes.kinds (top s) kind free_kind inside
 
   pub make-used : used_of (make s kind u a).nodes (top s) ≡ u
   unfolding make write_node
@@ -84,21 +84,21 @@ module _ {s : Store} (kind : ℕ) {u : ℕ} {a old : List ℕ} (k : Kept s old) 
       (omega (arith, sum-but s.nodes made.nodes (node_count s) (top s) n inside (children-le k) make_same, free-linkless s.nodes (top s) n (top-free k some)))
 
   -- a branch links its first u cells
-  pub branch-links : kind ≡ BRANCH → (n : ℕ) → cell_links made.nodes (top s) n ≡ occurrences n (take u a)
+  pub branch-links : kind ≡ branch_kind → (n : ℕ) → cell_links made.nodes (top s) n ≡ occurrences n (take u a)
   unfolding make
   branch-links e n =
       write-links s.nodes (top s) kind u a filled.whole (sized-place s (top s) k.sized inside).cells n inside (omega (arith, inside, k.sized.used)) e filled.fits
 
-  stays-used : (n : ℕ) → kind_of s.nodes n ≢ FREE → kind_of made.nodes n ≢ FREE
+  stays-used : (n : ℕ) → kind_of s.nodes n ≢ free_kind → kind_of made.nodes n ≢ free_kind
   stays-used n f e = f (sym (make_same n (used-not-top k some n f)).kind ∙ e)
 
   -- one law for leaves and branches: cs are the children, whose links were held
-  module _ (used : kind ≢ FREE) (cs roots : List ℕ) (links : (n : ℕ) → cell_links (make s kind u a).nodes (top s) n ≡ occurrences n cs)
+  module _ (used : kind ≢ free_kind) (cs roots : List ℕ) (links : (n : ℕ) → cell_links (make s kind u a).nodes (top s) n ≡ occurrences n cs)
       (moved : (n : ℕ) → occurrences n old ≡ occurrences n cs + occurrences n roots) where
-    was-used : (m n : ℕ) → 1 ≤ cell_links made.nodes m n → kind_of s.nodes n ≢ FREE
+    was-used : (m n : ℕ) → 1 ≤ cell_links made.nodes m n → kind_of s.nodes n ≢ free_kind
     was-used m n l = pick (ℕ_discrete m (top s))
       where
-        pick : Dec (m ≡ top s) → kind_of s.nodes n ≢ FREE
+        pick : Dec (m ≡ top s) → kind_of s.nodes n ≢ free_kind
         pick (yes e) = k.rooted n (omega (arith, moved n, links n, rw e at l))
         pick (no f) = k.celled m n (omega (arith, make-linked m n f))
 
@@ -137,21 +137,21 @@ module _ {s : Store} (kind : ℕ) {u : ℕ} {a old : List ℕ} (k : Kept s old) 
     ordered n (no f) =
         omega (arith, order-top k some n, k.ordered n, bit-other (top s) n (λ e. f (sym e)), same_bit s.nodes made.nodes n make-size (make_same n f).kind)
 
-    rooted : (n : ℕ) → 1 ≤ occurrences n (top s ∷ roots) → Dec (n ≡ top s) → kind_of made.nodes n ≢ FREE
+    rooted : (n : ℕ) → 1 ≤ occurrences n (top s ∷ roots) → Dec (n ≡ top s) → kind_of made.nodes n ≢ free_kind
     rooted n l (yes e) = rw e (λ d. used (sym make-kind ∙ d))
     rooted n l (no f) = stays-used n (k.rooted n (omega (arith, moved n, occurs-cons n (top s) roots, bit-other (top s) n (λ e. f (sym e)))))
 
     -- the clauses on a node in use, and on a free one
-    in_use : (n : ℕ) → kind_of made.nodes n ≢ FREE → Dec (n ≡ top s)
+    in_use : (n : ℕ) → kind_of made.nodes n ≢ free_kind → Dec (n ≡ top s)
         → (1 ≤ count_in made n + occurrences n []) × (used_of made.nodes n ≤ node_cells) × ((i : ℕ) → used_of made.nodes n ≤ i → i < node_cells → cell_of made.nodes n i ≡ 0)
     in_use n g (yes e) =
         rw e (omega (arith, make-count), omega (arith, make-used, filled.fits), λ i l b. make-cell i b ∙ filled.spare i (omega (arith, make-used)) b)
     in_use n g (no f) =
         let e = make_same n f in
-        let h : kind_of s.nodes n ≢ FREE = λ d. g (e.kind ∙ d) in
+        let h : kind_of s.nodes n ≢ free_kind = λ d. g (e.kind ∙ d) in
         (omega (arith, other-count n f, k.linked n h), omega (arith, e.used, k.fits n h), λ i l b. e.cells i b ∙ k.spare n i h (omega (arith, e.used)) b)
 
-    when-free : (n : ℕ) → kind_of made.nodes n ≡ FREE → Dec (n ≡ top s) → (used_of made.nodes n ≡ 0) × (count_in made n ≡ 0)
+    when-free : (n : ℕ) → kind_of made.nodes n ≡ free_kind → Dec (n ≡ top s) → (used_of made.nodes n ≡ 0) × (count_in made n ≡ 0)
     when-free n g (yes e) = absurd (used (sym make-kind ∙ rw e at g))
     when-free n g (no f) =
         let e = make_same n f in
@@ -180,21 +180,21 @@ module _ {s : Store} (kind : ℕ) {u : ℕ} {a old : List ℕ} (k : Kept s old) 
 
 -- ---- leaves and branches
 
-pub make-leaf : {s : Store} {u : ℕ} {a roots : List ℕ} → Kept s roots → 0 < s.free → Filled u a → Kept (make s LEAF u a) (top s ∷ roots)
+pub make-leaf : {s : Store} {u : ℕ} {a roots : List ℕ} → Kept s roots → 0 < s.free → Filled u a → Kept (make s leaf_kind u a) (top s ∷ roots)
 make-leaf {s} {u} {a} {roots} k some filled =
-    make-keeps LEAF k some filled (λ e. lt_irrefl zero (omega arith)) [] roots none (λ n. omega (arith, occurs-none n))
+    make-keeps leaf_kind k some filled (λ e. lt_irrefl zero (omega arith)) [] roots none (λ n. omega (arith, occurs-none n))
   where
-    none : (n : ℕ) → cell_links (make s LEAF u a).nodes (top s) n ≡ occurrences n []
+    none : (n : ℕ) → cell_links (make s leaf_kind u a).nodes (top s) n ≡ occurrences n []
     none n =
-        other-linkless (make s LEAF u a).nodes (top s) n (λ e. lt_irrefl zero (omega (arith, make-kind LEAF k some filled))) ∙ sym (occurs-none n)
+        other-linkless (make s leaf_kind u a).nodes (top s) n (λ e. lt_irrefl zero (omega (arith, make-kind leaf_kind k some filled))) ∙ sym (occurs-none n)
 
 -- xs: children whose links the maker held; ys: children whose counts are raised for it
 pub make-branch : {s : Store} {u : ℕ} {a : List ℕ} (xs ys roots : List ℕ) → Kept s (xs ++ roots) → 0 < s.free → Filled u a
-    → ((n : ℕ) → occurrences n (take u a) ≡ occurrences n xs + occurrences n ys) → ((n : ℕ) → 1 ≤ occurrences n ys → kind_of s.nodes n ≢ FREE)
-    → Kept (make (raised s ys) BRANCH u a) (top s ∷ roots)
+    → ((n : ℕ) → occurrences n (take u a) ≡ occurrences n xs + occurrences n ys) → ((n : ℕ) → 1 ≤ occurrences n ys → kind_of s.nodes n ≢ free_kind)
+    → Kept (make (raised s ys) branch_kind u a) (top s ∷ roots)
 unfolding top
 make-branch {s} {u} {a} xs ys roots k some filled split used =
-    make-keeps BRANCH up some filled (λ e. lt_irrefl zero (omega arith)) (take u a) roots (branch-links BRANCH up some filled refl)
+    make-keeps branch_kind up some filled (λ e. lt_irrefl zero (omega arith)) (take u a) roots (branch-links branch_kind up some filled refl)
     (λ n. omega (arith, occurs-append n ys (xs ++ roots), occurs-append n xs roots, split n))
   where
     up : Kept (raised s ys) (ys ++ (xs ++ roots))

@@ -7,7 +7,7 @@ use native.Mathlib.Nat.{lt_irrefl, eq-zero-or-pos}
 use native.Mathlib.Decide.{ℕ_discrete, dec_lt}
 use native.Mathlib.Omega.{arith}
 use lib.ListN.{get_or-eq_default}
-use Rattle.meaning.specs.Limits.{FREE}
+use Rattle.meaning.specs.Limits.{free_kind}
 use Rattle.meaning.specs.Counting.{occurrences}
 use Rattle.meaning.specs.Lent.{kind_of}
 use Rattle.meaning.proofs.Lists.{occurs-append}
@@ -43,7 +43,7 @@ roots-permute roots' k e = record {
 -- ---- the store
 
 -- nodes in use get one link more each
-pub raised_keeps : {s : Store} {roots : List ℕ} (ns : List ℕ) → Kept s roots → ((n : ℕ) → 1 ≤ occurrences n ns → kind_of s.nodes n ≢ FREE)
+pub raised_keeps : {s : Store} {roots : List ℕ} (ns : List ℕ) → Kept s roots → ((n : ℕ) → 1 ≤ occurrences n ns → kind_of s.nodes n ≢ free_kind)
     → Kept (raised s ns) (ns ++ roots)
 raised_keeps {s} {roots} ns k used = record {
   sized = record { used = k.sized.used; cells = k.sized.cells; counts = raises-length s.counts ns ∙ k.sized.counts; order = k.sized.order };
@@ -67,19 +67,19 @@ raised_keeps {s} {roots} ns k used = record {
     at : (n : ℕ) → n < node_count s → count_in (raised s ns) n ≡ count_in s n + occurrences n ns
     at n l = raises-at s.counts ns n (omega (arith, k.sized.counts))
 
-    rooted : (n : ℕ) → 1 ≤ occurrences n (ns ++ roots) → (occurrences n ns ≡ 0) ⊎ (0 < occurrences n ns) → kind_of s.nodes n ≢ FREE
+    rooted : (n : ℕ) → 1 ≤ occurrences n (ns ++ roots) → (occurrences n ns ≡ 0) ⊎ (0 < occurrences n ns) → kind_of s.nodes n ≢ free_kind
     rooted n l (inl e) = k.rooted n (omega (arith, occurs-append n ns roots))
     rooted n l (inr q) = used n q
 
-    free : (n : ℕ) → kind_of s.nodes n ≡ FREE → Dec (n < node_count s) → (occurrences n ns ≡ 0) ⊎ (0 < occurrences n ns) → count_in (raised s ns) n ≡ 0
+    free : (n : ℕ) → kind_of s.nodes n ≡ free_kind → Dec (n < node_count s) → (occurrences n ns ≡ 0) ⊎ (0 < occurrences n ns) → count_in (raised s ns) n ≡ 0
     free n e (yes l) (inl z) = omega (arith, at n l, k.free_count n e)
     free n e (yes l) (inr q) = absurd (used n q e)
     free n e (no g) d = get_or-eq_default (raises s.counts ns) 0 (omega (arith, raises-length s.counts ns, k.sized.counts))
 
 -- one link more to a node in use: a clone, or a walk opened
-pub raised-one : {s : Store} {roots : List ℕ} (n : ℕ) → Kept s roots → kind_of s.nodes n ≢ FREE → Kept (raised s (n ∷ [])) (n ∷ roots)
+pub raised-one : {s : Store} {roots : List ℕ} (n : ℕ) → Kept s roots → kind_of s.nodes n ≢ free_kind → Kept (raised s (n ∷ [])) (n ∷ roots)
 raised-one {s} n k f = raised_keeps (n ∷ []) k (λ m l. one m l (ℕ_discrete n m))
   where
-    one : (m : ℕ) → 1 ≤ occurrences m (n ∷ []) → Dec (n ≡ m) → kind_of s.nodes m ≢ FREE
+    one : (m : ℕ) → 1 ≤ occurrences m (n ∷ []) → Dec (n ≡ m) → kind_of s.nodes m ≢ free_kind
     one m l (yes e) = rw e at f
     one m l (no g) = absurd (lt_irrefl zero (omega (arith, occurs-cons m n [], occurs-none m, bit-other n m g)))

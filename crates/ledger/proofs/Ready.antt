@@ -8,7 +8,7 @@ use native.Mathlib.Decide.{ℕ_discrete, dec_lt}
 use native.Mathlib.Omega.{arith}
 use lib.ListN.{length, get_or, take, length-take}
 use lib.Seq.{get_or-take}
-use Rattle.meaning.specs.Limits.{max_nodes, FREE, BRANCH}
+use Rattle.meaning.specs.Limits.{max_nodes, free_kind, branch_kind}
 use Rattle.meaning.specs.Lent.{kind_of, used_of, cell_of, child_count}
 use Rattle.meaning.proofs.Sums.{occurs-at}
 use Rattle.meaning.proofs.Nodes.{branch-count, other-count, used-inside}
@@ -42,7 +42,7 @@ module _ {s : Store} {roots : List ℕ} (k : Kept s roots) where
 
   children-below : (n : ℕ) → AllBelow (node_count s) (children_of s.nodes n)
   unfolding AllBelow children_of
-  children-below n i l = pick (ℕ_discrete (kind_of s.nodes n) BRANCH)
+  children-below n i l = pick (ℕ_discrete (kind_of s.nodes n) branch_kind)
     where
       cs : List ℕ
       cs = cells_of s.nodes.cells n
@@ -50,7 +50,7 @@ module _ {s : Store} {roots : List ℕ} (k : Kept s roots) where
       short : i < min (child_count s.nodes n) (length cs)
       short = rw length-take at l
 
-      pick : Dec (kind_of s.nodes n ≡ BRANCH) → get_or (take (child_count s.nodes n) cs) i 0 < node_count s
+      pick : Dec (kind_of s.nodes n ≡ branch_kind) → get_or (take (child_count s.nodes n) cs) i 0 < node_count s
       pick (yes e) =
           let u : i < used_of s.nodes n = omega (arith, short, branch-count s.nodes n e) in
           let inside : n < node_count s = used-inside s.nodes n (λ d. lt_irrefl zero (omega arith)) in
@@ -63,5 +63,5 @@ module _ {s : Store} {roots : List ℕ} (k : Kept s roots) where
   whole = record { sized = k.sized; room = rw k.sized.counts (linked-room k); few = children-le k; children = children-below }
 
   -- a link to a node in use can be given up
-  pub releasable : (n : ℕ) → kind_of s.nodes n ≢ FREE → Releasable s n
+  pub releasable : (n : ℕ) → kind_of s.nodes n ≢ free_kind → Releasable s n
   releasable n f = record { whole = whole; below = used-inside s.nodes n f }

@@ -9,7 +9,7 @@ use lib.Dec.{ltb}
 use lib.ListN.{length, get_or, take, length-set, drop_of_length-le}
 use lib.Seq.{slice_empty, length-take-le}
 use borrow.Author.Tests.{ltb-true, ltb-false}
-use Rattle.meaning.specs.Limits.{FREE}
+use Rattle.meaning.specs.Limits.{free_kind}
 use Rattle.meaning.specs.Lent.{kind_of}
 use Rattle.meaning.specs.Links.{Reached}
 use Rattle.store.specs.Store.{Store, children_of}
@@ -122,7 +122,7 @@ module _ {s : Store} {n : ℕ} {roots : List ℕ} (k : Kept s (n ∷ roots)) whe
       let remains = release-remains s n in (reached-remains k (release-keeps k) remains r, reached-same k (release-keeps k) remains r)
 
   -- in use afterwards is what a root that is left reached before
-  pub release-used : (m : ℕ) → (kind_of (release s n).nodes m ≢ FREE) ↔ Reached s.nodes roots m
+  pub release-used : (m : ℕ) → (kind_of (release s n).nodes m ≢ free_kind) ↔ Reached s.nodes roots m
   release-used m =
       let remains = release-remains s n in (
         λ f. reached-before k (release-keeps k) remains (used-reached (release-keeps k) m f),

@@ -9,7 +9,7 @@ use native.Mathlib.Decide.{ℕ_discrete}
 use native.Mathlib.Omega.{arith}
 use lib.ListN.{get_or, set, take, length-set}
 use lib.Seq.{get_or-set_other, slice-cons}
-use Rattle.meaning.specs.Limits.{node_cells, FREE}
+use Rattle.meaning.specs.Limits.{node_cells, free_kind}
 use Rattle.meaning.specs.Counting.{bit, occurrences}
 use Rattle.meaning.specs.Lent.{kind_of, used_of, is_free}
 use Rattle.meaning.specs.Links.{cell_links}
@@ -30,11 +30,11 @@ use Rattle.ledger.proofs.Lowering.{lowers-keeps, lowers-waiting}
 -- every other node stays as it was
 pub vacate-same : (s : Store) (n m : ℕ) → m ≢ n → Same s.nodes (vacate s n).nodes m
 unfolding vacate
-vacate-same s n m f = record { kind = get_or-set_other s.nodes.kinds n m FREE FREE f; used = get_or-set_other s.nodes.used n m 0 0 f; cells = λ i l. refl }
+vacate-same s n m f = record { kind = get_or-set_other s.nodes.kinds n m free_kind free_kind f; used = get_or-set_other s.nodes.used n m 0 0 f; cells = λ i l. refl }
 
 pub vacate-size : (s : Store) (n : ℕ) → node_count (vacate s n) ≡ node_count s
 unfolding vacate
-vacate-size s n = length-set s.nodes.kinds n FREE
+vacate-size s n = length-set s.nodes.kinds n free_kind
 
 -- whether n is a node or not
 set-default : (xs : List ℕ) (n d : ℕ) → get_or (set xs n d) n d ≡ d
@@ -42,9 +42,9 @@ set-default [] n d = refl
 set-default (x ∷ xs) zero d = refl
 set-default (x ∷ xs) (suc n) d = set-default xs n d
 
-pub vacate-kind : (s : Store) (n : ℕ) → kind_of (vacate s n).nodes n ≡ FREE
+pub vacate-kind : (s : Store) (n : ℕ) → kind_of (vacate s n).nodes n ≡ free_kind
 unfolding vacate
-vacate-kind s n = set-default s.nodes.kinds n FREE
+vacate-kind s n = set-default s.nodes.kinds n free_kind
 
 pub vacate-used : (s : Store) (n : ℕ) → used_of (vacate s n).nodes n ≡ 0
 unfolding vacate
@@ -74,17 +74,17 @@ module _ {s : Store} {n : ℕ} {roots pending : List ℕ} (k : Keeping s roots (
         links-children s.nodes n x (children-le k n) (sized-place s n k.sized inside).cells,
       ))
 
-  used-other : (m : ℕ) → kind_of (vacate s n).nodes m ≢ FREE → m ≢ n
+  used-other : (m : ℕ) → kind_of (vacate s n).nodes m ≢ free_kind → m ≢ n
   used-other m f e = f (ap (kind_of (vacate s n).nodes) e ∙ vacate-kind s n)
 
-  was-used : (m : ℕ) → kind_of (vacate s n).nodes m ≢ FREE → kind_of s.nodes m ≢ FREE
+  was-used : (m : ℕ) → kind_of (vacate s n).nodes m ≢ free_kind → kind_of s.nodes m ≢ free_kind
   was-used m f d = f ((vacate-same s n m (used-other m f)).kind ∙ d)
 
-  stays-used : (m : ℕ) → m ≢ n → kind_of s.nodes m ≢ FREE → kind_of (vacate s n).nodes m ≢ FREE
+  stays-used : (m : ℕ) → m ≢ n → kind_of s.nodes m ≢ free_kind → kind_of (vacate s n).nodes m ≢ free_kind
   stays-used m g f d = f (sym (vacate-same s n m g).kind ∙ d)
 
   -- what is linked is another node, and in use
-  linked-used : (m : ℕ) → 1 ≤ occurrences m roots + links_in s m → kind_of (vacate s n).nodes m ≢ FREE
+  linked-used : (m : ℕ) → 1 ≤ occurrences m roots + links_in s m → kind_of (vacate s n).nodes m ≢ free_kind
   linked-used m l =
       let c : 1 ≤ count_in s m = omega (arith, counted-links k m) in
       stays-used m (λ e. lt_irrefl zero (omega (arith, ap (count_in s) e, unlinked))) (counted-used k m c)
@@ -112,15 +112,15 @@ module _ {s : Store} {n : ℕ} {roots pending : List ℕ} (k : Keeping s roots (
   ordered m (no f) =
       omega (arith, k.ordered m, occurs-cons m n pending, bit-other n m f, same_bit s.nodes (vacate s n).nodes m (vacate-size s n) (vacate-same s n m (λ e. f (sym e))).kind)
 
-  rooted : (m : ℕ) → 1 ≤ occurrences m (children_of s.nodes n ++ roots) → kind_of (vacate s n).nodes m ≢ FREE
+  rooted : (m : ℕ) → 1 ≤ occurrences m (children_of s.nodes n ++ roots) → kind_of (vacate s n).nodes m ≢ free_kind
   rooted m l =
       let either : 1 ≤ occurrences m roots + links_in s m = omega (arith, occurs-append m (children_of s.nodes n) roots, vacate-links m) in
       linked-used m either
 
-  celled : (m x : ℕ) → 1 ≤ cell_links (vacate s n).nodes m x → (cell_links (vacate s n).nodes m x ≡ cell_links s.nodes m x) × (kind_of (vacate s n).nodes x ≢ FREE)
+  celled : (m x : ℕ) → 1 ≤ cell_links (vacate s n).nodes m x → (cell_links (vacate s n).nodes m x ≡ cell_links s.nodes m x) × (kind_of (vacate s n).nodes x ≢ free_kind)
   celled m x l = pick (ℕ_discrete m n)
     where
-      pick : Dec (m ≡ n) → (cell_links (vacate s n).nodes m x ≡ cell_links s.nodes m x) × (kind_of (vacate s n).nodes x ≢ FREE)
+      pick : Dec (m ≡ n) → (cell_links (vacate s n).nodes m x ≡ cell_links s.nodes m x) × (kind_of (vacate s n).nodes x ≢ free_kind)
       pick (yes e) = absurd (lt_irrefl zero (omega (arith, rw e at l, free-linkless (vacate s n).nodes n x (vacate-kind s n))))
       pick (no f) =
           let e = vacate-linked m x f in
@@ -128,7 +128,7 @@ module _ {s : Store} {n : ℕ} {roots pending : List ℕ} (k : Keeping s roots (
           let one : cell_links s.nodes m x ≤ links_in s x = term-le (node_count s) (λ j. cell_links s.nodes j x) m (used-inside s.nodes m (linking-used s.nodes m x c)) in
           (e, linked-used x (omega arith))
 
-  when-free : (m : ℕ) → kind_of (vacate s n).nodes m ≡ FREE → Dec (m ≡ n) → (used_of (vacate s n).nodes m ≡ 0) × (count_in s m ≡ 0)
+  when-free : (m : ℕ) → kind_of (vacate s n).nodes m ≡ free_kind → Dec (m ≡ n) → (used_of (vacate s n).nodes m ≡ 0) × (count_in s m ≡ 0)
   when-free m g (yes e) = rw e (vacate-used s n, unlinked)
   when-free m g (no f) =
       let e = vacate-same s n m f in (e.used ∙ k.free_used m (sym e.kind ∙ g), k.free_count m (sym e.kind ∙ g))
@@ -164,7 +164,7 @@ module _ {s : Store} {roots : List ℕ} (at : ℕ) (k : Keeping s roots (waiting
   first : Keeping s roots (get_or s.order at 0 ∷ waiting s (at + 1))
   first = subst (Keeping s roots) (rw add-one (slice-cons at s.free s.order 0 l k.room)) k
 
-  pub next-used : kind_of s.nodes (get_or s.order at 0) ≢ FREE
+  pub next-used : kind_of s.nodes (get_or s.order at 0) ≢ free_kind
   next-used = first.pending_used (get_or s.order at 0) (occurs-first (get_or s.order at 0) (waiting s (at + 1)))
 
   pub next-inside : get_or s.order at 0 < node_count s

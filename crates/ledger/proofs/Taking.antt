@@ -7,7 +7,7 @@ use native.Mathlib.Omega.{arith}
 use lib.Dec.{eqb}
 use lib.ListN.{get_or, take}
 use lib.Seq.{take-suc}
-use Rattle.meaning.specs.Limits.{FREE}
+use Rattle.meaning.specs.Limits.{free_kind}
 use Rattle.meaning.specs.Counting.{bit, occurrences}
 use Rattle.meaning.specs.Lent.{kind_of, is_free}
 use Rattle.meaning.specs.Links.{cell_links}
@@ -34,7 +34,7 @@ module _ {s : Store} {roots : List ℕ} (k : Kept s roots) (some : 0 < s.free) w
   pub top-inside : top s < node_count s
   top-inside = (bit-free s.nodes (top s) top_bit).0
 
-  pub top-free : kind_of s.nodes (top s) ≡ FREE
+  pub top-free : kind_of s.nodes (top s) ≡ free_kind
   top-free = (bit-free s.nodes (top s) top_bit).1
 
   pub top-unrooted : occurrences (top s) roots ≡ 0
@@ -46,5 +46,5 @@ module _ {s : Store} {roots : List ℕ} (k : Kept s roots) (some : 0 < s.free) w
   pub top_count : count_in s (top s) ≡ 0
   top_count = k.free_count (top s) top-free
 
-  pub used-not-top : (n : ℕ) → kind_of s.nodes n ≢ FREE → n ≢ top s
+  pub used-not-top : (n : ℕ) → kind_of s.nodes n ≢ free_kind → n ≢ top s
   used-not-top n f e = f (ap (kind_of s.nodes) e ∙ top-free)

@@ -1,6 +1,6 @@
 -- What a node is written with, and what reads the same before and after.
 use Rattle.std.specs.Prelude.{◌≡◌, ◌≢◌, List, ℕ, ◌≤◌, ◌<◌, length, get_or}
-use Rattle.meaning.specs.Limits.{node_cells, FREE}
+use Rattle.meaning.specs.Limits.{node_cells, free_kind}
 use Rattle.meaning.specs.Lent.{kind_of}
 use Rattle.store.specs.Store.{Store, node_count}
 use Rattle.store.specs.Frame.{Same}
@@ -17,5 +17,5 @@ pub record Remains (s t : Store) : Type 0 where
   pub order : length t.order ≡ length s.order
   pub cells : t.nodes.cells ≡ s.nodes.cells
   -- a node in use afterwards reads the same
-  pub same : (n : ℕ) → kind_of t.nodes n ≢ FREE → Same s.nodes t.nodes n
+  pub same : (n : ℕ) → kind_of t.nodes n ≢ free_kind → Same s.nodes t.nodes n
   pub more : s.free ≤ t.free

@@ -1,6 +1,6 @@
 -- What a node store keeps through every operation: clauses on each node by itself and the links to it. Which nodes are reached, and how many are free, follows.
 use Rattle.std.specs.Prelude.{◌≡◌, ◌≢◌, List, [], ℕ, ◌+◌, ◌≤◌, ◌<◌, length, get_or, take}
-use Rattle.meaning.specs.Limits.{node_cells, FREE}
+use Rattle.meaning.specs.Limits.{node_cells, free_kind}
 use Rattle.meaning.specs.Counting.{sum_to, bit, occurrences}
 use Rattle.meaning.specs.Lent.{kind_of, used_of, cell_of, is_free, Lent, free_nodes}
 use Rattle.meaning.specs.Links.{cell_links}
@@ -24,18 +24,18 @@ pub record Keeping (s : Store) (roots pending : List ℕ) : Type 0 where
   pub room : s.free ≤ length s.order
   pub ordered : (n : ℕ) → occurrences n (take s.free s.order) ≡ bit (is_free s.nodes n) + occurrences n pending
   -- a node in use is linked, or pending
-  pub linked : (n : ℕ) → kind_of s.nodes n ≢ FREE → 1 ≤ count_in s n + occurrences n pending
+  pub linked : (n : ℕ) → kind_of s.nodes n ≢ free_kind → 1 ≤ count_in s n + occurrences n pending
   -- what is linked is in use
-  pub rooted : (n : ℕ) → 1 ≤ occurrences n roots → kind_of s.nodes n ≢ FREE
-  pub celled : (m n : ℕ) → 1 ≤ cell_links s.nodes m n → kind_of s.nodes n ≢ FREE
+  pub rooted : (n : ℕ) → 1 ≤ occurrences n roots → kind_of s.nodes n ≢ free_kind
+  pub celled : (m n : ℕ) → 1 ≤ cell_links s.nodes m n → kind_of s.nodes n ≢ free_kind
   -- a node in use has at most 32 cells in use, and its others are 0
-  pub fits : (n : ℕ) → kind_of s.nodes n ≢ FREE → used_of s.nodes n ≤ node_cells
-  pub spare : (n i : ℕ) → kind_of s.nodes n ≢ FREE → used_of s.nodes n ≤ i → i < node_cells → cell_of s.nodes n i ≡ 0
+  pub fits : (n : ℕ) → kind_of s.nodes n ≢ free_kind → used_of s.nodes n ≤ node_cells
+  pub spare : (n i : ℕ) → kind_of s.nodes n ≢ free_kind → used_of s.nodes n ≤ i → i < node_cells → cell_of s.nodes n i ≡ 0
   -- used and count of a free node are 0
-  pub free_used : (n : ℕ) → kind_of s.nodes n ≡ FREE → used_of s.nodes n ≡ 0
-  pub free_count : (n : ℕ) → kind_of s.nodes n ≡ FREE → count_in s n ≡ 0
+  pub free_used : (n : ℕ) → kind_of s.nodes n ≡ free_kind → used_of s.nodes n ≡ 0
+  pub free_count : (n : ℕ) → kind_of s.nodes n ≡ free_kind → count_in s n ≡ 0
   -- a pending node is in use, pending once, and has no link
-  pub pending_used : (n : ℕ) → 1 ≤ occurrences n pending → kind_of s.nodes n ≢ FREE
+  pub pending_used : (n : ℕ) → 1 ≤ occurrences n pending → kind_of s.nodes n ≢ free_kind
   pub pending_once : (n : ℕ) → occurrences n pending ≤ 1
   pub pending_count : (n : ℕ) → 1 ≤ occurrences n pending → count_in s n ≡ 0
   -- something falls along links, as the height does

@@ -1,6 +1,6 @@
 -- How much a host lends, and the number of a batch that lends too much or too little.
 use Rattle.std.specs.Prelude.{◌≡◌, ◌↔◌, cond, ℕ, ◌/◌, ◌%◌, ◌≤◌, eqb, ltb, length}
-use Rattle.meaning.specs.Limits.{max_nodes, frame_size, ILL-FORMED, NO-ROOM, RAGGED}
+use Rattle.meaning.specs.Limits.{max_nodes, frame_size, ill_formed_number, no_room_number, ragged_number}
 use Rattle.meaning.specs.Lent.{Lent, size}
 use Rattle.meaning.specs.WellFormed.{SizesFit}
 use Rattle.requests.specs.Requests.{answer_place}
@@ -30,4 +30,4 @@ pub record RightSizes (n : ℕ) (r : Sizes) : Type 0 where
 
 -- a batch on a state that can't be well-formed: batch checks run 13, 12, 11
 abbrev pub refusal_of : (asked room : ℕ) → ℕ
-refusal_of asked room = cond (eqb (asked % frame_size) 0) (cond (ltb room (answer_place (asked / frame_size))) NO-ROOM ILL-FORMED) RAGGED
+refusal_of asked room = cond (eqb (asked % frame_size) 0) (cond (ltb room (answer_place (asked / frame_size))) no_room_number ill_formed_number) ragged_number

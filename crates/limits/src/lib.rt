@@ -6,7 +6,7 @@ pub mod operations;
 pub mod words;
 
 ghost use Rattle.std.specs.Prelude.{◌≡◌, [], ◌∷◌};
-ghost use Rattle.meaning.specs.Limits.{max_nodes, node_cells, FREE, LEAF, BRANCH, last_party, last_slot, last_walk, parties, party_slots, party_walks, version_count, walk_count, host, max_bits, default_bits, length_bits, max_length, word_width, walk_levels, walk_numbers, all_numbers, places, frame_size, answer_size, last_operation, program_nodes};
+ghost use Rattle.meaning.specs.Limits.{max_nodes, node_cells, free_kind, leaf_kind, branch_kind, last_party, last_slot, last_walk, parties, party_slots, party_walks, version_count, walk_count, host, max_bits, default_bits, length_bits, max_length, word_width, walk_levels, walk_numbers, all_numbers, places, frame_size, answer_size, last_operation, program_nodes};
 
 // ---- nodes
 
@@ -82,7 +82,7 @@ pub const PROGRAM_NODES: usize = 256;
 
 // All of the above, in their order.
 pub fn all() -> [usize; 27]
-    ensures { result ≡ max_nodes ∷ node_cells ∷ FREE ∷ LEAF ∷ BRANCH
+    ensures { result ≡ max_nodes ∷ node_cells ∷ free_kind ∷ leaf_kind ∷ branch_kind
         ∷ last_party ∷ last_slot ∷ last_walk ∷ parties ∷ party_slots ∷ party_walks ∷ version_count ∷ walk_count ∷ host
         ∷ max_bits ∷ default_bits ∷ length_bits ∷ max_length ∷ word_width ∷ walk_levels ∷ walk_numbers ∷ all_numbers ∷ places
         ∷ frame_size ∷ answer_size ∷ last_operation ∷ program_nodes ∷ [] }

@@ -1,6 +1,6 @@
 // The numbers given back.
 ghost use Rattle.std.specs.Prelude.{◌≡◌, [], ◌∷◌};
-ghost use Rattle.meaning.specs.Limits.{DONE, NO-PARTY, NO-OPERATION, HOST-ONLY, OUT-OF-RANGE, EMPTY-SOURCE, LIVE-TARGET, BAD-BITS, NOTHING-THERE, FULL, NO-NODES, ILL-FORMED, NO-ROOM, RAGGED, NOT-A-FRAME};
+ghost use Rattle.meaning.specs.Limits.{done_number, no_party_number, no_operation_number, host_only_number, out_of_range_number, empty_source_number, live_target_number, bad_bits_number, nothing_there_number, full_number, no_nodes_number, ill_formed_number, no_room_number, ragged_number, not_a_frame_number};
 
 pub const DONE: u8 = 0;
 
@@ -34,9 +34,9 @@ pub const NOT_A_FRAME: u8 = 14;
 
 // All of them, in their order.
 pub fn all() -> [u8; 15]
-    ensures { result ≡ DONE ∷ NO-PARTY ∷ NO-OPERATION ∷ HOST-ONLY ∷ OUT-OF-RANGE ∷ EMPTY-SOURCE
-        ∷ LIVE-TARGET ∷ BAD-BITS ∷ NOTHING-THERE ∷ FULL ∷ NO-NODES ∷ ILL-FORMED
-        ∷ NO-ROOM ∷ RAGGED ∷ NOT-A-FRAME ∷ [] }
+    ensures { result ≡ done_number ∷ no_party_number ∷ no_operation_number ∷ host_only_number ∷ out_of_range_number ∷ empty_source_number
+        ∷ live_target_number ∷ bad_bits_number ∷ nothing_there_number ∷ full_number ∷ no_nodes_number ∷ ill_formed_number
+        ∷ no_room_number ∷ ragged_number ∷ not_a_frame_number ∷ [] }
 {
     [
         DONE,

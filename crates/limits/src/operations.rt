@@ -1,6 +1,6 @@
 // The operations by their numbers.
 ghost use Rattle.std.specs.Prelude.{◌≡◌, [], ◌∷◌};
-ghost use Rattle.meaning.specs.Limits.{NEW, CLONE, RELEASE, LEN, GET, SET, PUSH-BACK, DROP-LAST, OPEN-WALK, NEXT, NEXT-BACK, CLOSE-WALK, HAND-OVER, FREE-NODES, FIRST, LAST, COMPARE};
+ghost use Rattle.meaning.specs.Limits.{new_code, clone_code, release_code, len_code, get_code, set_code, push_back_code, drop_last_code, open_walk_code, next_code, next_back_code, close_walk_code, hand_over_code, free_nodes_code, first_code, last_code, compare_code};
 
 pub const NEW: u8 = 0x00;
 
@@ -38,9 +38,9 @@ pub const COMPARE: u8 = 0x10;
 
 // All of them, in their order.
 pub fn all() -> [u8; 17]
-    ensures { result ≡ NEW ∷ CLONE ∷ RELEASE ∷ LEN ∷ GET ∷ SET
-        ∷ PUSH-BACK ∷ DROP-LAST ∷ OPEN-WALK ∷ NEXT ∷ NEXT-BACK ∷ CLOSE-WALK
-        ∷ HAND-OVER ∷ FREE-NODES ∷ FIRST ∷ LAST ∷ COMPARE ∷ [] }
+    ensures { result ≡ new_code ∷ clone_code ∷ release_code ∷ len_code ∷ get_code ∷ set_code
+        ∷ push_back_code ∷ drop_last_code ∷ open_walk_code ∷ next_code ∷ next_back_code ∷ close_walk_code
+        ∷ hand_over_code ∷ free_nodes_code ∷ first_code ∷ last_code ∷ compare_code ∷ [] }
 {
     [
         NEW, CLONE, RELEASE, LEN, GET, SET, PUSH_BACK, DROP_LAST, OPEN_WALK, NEXT, NEXT_BACK,

@@ -14,7 +14,7 @@ use Rattle.meaning.specs.Serve.{refused, run}
 use Rattle.meaning.specs.Batch.{calls_in, answer_bytes}
 use Rattle.meaning.specs.Program.{Line, other, digit_byte, to_hex, lines_of, talk, write}
 use Rattle.hexadecimal.specs.Text.{printed_answer}
-use Rattle.lines.specs.Lines.{FRAME, whole_lines, left_over, Keeps, marked_lines, frames_marked}
+use Rattle.lines.specs.Lines.{frame_mark, whole_lines, left_over, Keeps, marked_lines, frames_marked}
 use Rattle.lines.specs.Printing.{printed_line, printed}
 use Rattle.lines.specs.After.{after_lines, at_lines}
 use Rattle.lines.proofs.Pieces.{lines-append, lines_end}
@@ -24,9 +24,9 @@ use Rattle.lines.proofs.Talking.{write-append, talk-append, talk-same, after_sam
 marked-length : (marks requests : List ℕ) → length (marked_lines marks requests) ≡ length marks
 unfolding marked_lines
 marked-length [] bs = refl
-marked-length (m ∷ ms) bs = by (eqb m FRAME) refl (marked-length ms (drop frame_size bs)) (marked-length ms bs)
+marked-length (m ∷ ms) bs = by (eqb m frame_mark) refl (marked-length ms (drop frame_size bs)) (marked-length ms bs)
   where
-    by : (o : Bool) → eqb m FRAME ≡ o → length (marked_lines ms (drop frame_size bs)) ≡ length ms → length (marked_lines ms bs) ≡ length ms → length (marked_lines (m ∷ ms) bs) ≡ suc (length ms)
+    by : (o : Bool) → eqb m frame_mark ≡ o → length (marked_lines ms (drop frame_size bs)) ≡ length ms → length (marked_lines ms bs) ≡ length ms → length (marked_lines (m ∷ ms) bs) ≡ suc (length ms)
     by true e p q = ap length (marked-frame m ms e bs) ∙ ap suc p
     by false e p q = ap length (marked_other m ms e bs) ∙ ap suc q
 

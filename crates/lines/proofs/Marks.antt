@@ -8,19 +8,19 @@ use native.Mathlib.Omega.{arith}
 use lib.Dec.{eqb}
 use lib.ListN.{take, drop}
 use lib.Seq.{take-take, take-nil, drop-drop}
-use Rattle.meaning.specs.Limits.{frame_size, answer_size, NOT-A-FRAME}
+use Rattle.meaning.specs.Limits.{frame_size, answer_size, not_a_frame_number}
 use Rattle.meaning.specs.Frames.{decode, encode}
 use Rattle.meaning.specs.Serve.{refused}
 use Rattle.meaning.specs.Supply.{Supply}
 use Rattle.meaning.specs.Batch.{calls_in}
 use Rattle.meaning.specs.Program.{Line, frame, other}
 use Rattle.hexadecimal.specs.Text.{printed_answer}
-use Rattle.lines.specs.Lines.{FRAME, marked_lines, frames_marked}
+use Rattle.lines.specs.Lines.{frame_mark, marked_lines, frames_marked}
 use Rattle.lines.specs.Printing.{printed_line, printed}
 
 -- ---- one mark
 
-module _ (m : ℕ) (ms : List ℕ) (e : eqb m FRAME ≡ true) where
+module _ (m : ℕ) (ms : List ℕ) (e : eqb m frame_mark ≡ true) where
   pub marked-frame : (bs : List ℕ) → marked_lines (m ∷ ms) bs ≡ frame (decode (take frame_size bs)) ∷ marked_lines ms (drop frame_size bs)
   unfolding marked_lines
   marked-frame bs = rw e
@@ -33,7 +33,7 @@ module _ (m : ℕ) (ms : List ℕ) (e : eqb m FRAME ≡ true) where
   unfolding printed printed_line
   printed-frame bs = rw e
 
-module _ (m : ℕ) (ms : List ℕ) (e : eqb m FRAME ≡ false) where
+module _ (m : ℕ) (ms : List ℕ) (e : eqb m frame_mark ≡ false) where
   pub marked_other : (bs : List ℕ) → marked_lines (m ∷ ms) bs ≡ other ∷ marked_lines ms bs
   unfolding marked_lines
   marked_other bs = rw e
@@ -42,7 +42,7 @@ module _ (m : ℕ) (ms : List ℕ) (e : eqb m FRAME ≡ false) where
   unfolding frames_marked
   counted-other = rw e
 
-  pub printed-other : (bs : List ℕ) → printed (m ∷ ms) bs ≡ printed_answer (encode (refused NOT-A-FRAME)) ++ printed ms bs
+  pub printed-other : (bs : List ℕ) → printed (m ∷ ms) bs ≡ printed_answer (encode (refused not_a_frame_number)) ++ printed ms bs
   unfolding printed printed_line
   printed-other bs = rw e
 
@@ -57,7 +57,7 @@ drop-next size n bs = drop-drop (size * n) size bs ∙ ap (λ k. drop k bs) (sym
 pub counted-append : (xs ys : List ℕ) → frames_marked (xs ++ ys) ≡ frames_marked xs + frames_marked ys
 unfolding frames_marked
 counted-append [] ys = sym (zero-add _)
-counted-append (m ∷ xs) ys = by (eqb m FRAME) (counted-append xs ys)
+counted-append (m ∷ xs) ys = by (eqb m frame_mark) (counted-append xs ys)
   where
     by : (o : Bool) → frames_marked (xs ++ ys) ≡ frames_marked xs + frames_marked ys
         → cond o (suc (frames_marked (xs ++ ys))) (frames_marked (xs ++ ys)) ≡ cond o (suc (frames_marked xs)) (frames_marked xs) + frames_marked ys
@@ -67,7 +67,7 @@ counted-append (m ∷ xs) ys = by (eqb m FRAME) (counted-append xs ys)
 pub marked_append : (xs ys bs : List ℕ) → marked_lines (xs ++ ys) bs ≡ marked_lines xs bs ++ marked_lines ys (drop (frame_size * frames_marked xs) bs)
 unfolding marked_lines frames_marked
 marked_append [] ys bs = refl
-marked_append (m ∷ xs) ys bs = by (eqb m FRAME) (marked_append xs ys (drop frame_size bs)) (marked_append xs ys bs)
+marked_append (m ∷ xs) ys bs = by (eqb m frame_mark) (marked_append xs ys (drop frame_size bs)) (marked_append xs ys bs)
   where
     by : (o : Bool) → marked_lines (xs ++ ys) (drop frame_size bs) ≡ marked_lines xs (drop frame_size bs) ++ marked_lines ys (drop (frame_size * frames_marked xs) (drop frame_size bs))
         → marked_lines (xs ++ ys) bs ≡ marked_lines xs bs ++ marked_lines ys (drop (frame_size * frames_marked xs) bs)
@@ -79,7 +79,7 @@ marked_append (m ∷ xs) ys bs = by (eqb m FRAME) (marked_append xs ys (drop fra
 pub printed-append : (xs ys bs : List ℕ) → printed (xs ++ ys) bs ≡ printed xs bs ++ printed ys (drop (answer_size * frames_marked xs) bs)
 unfolding printed frames_marked
 printed-append [] ys bs = refl
-printed-append (m ∷ xs) ys bs = by (eqb m FRAME) (printed-append xs ys (drop answer_size bs)) (printed-append xs ys bs)
+printed-append (m ∷ xs) ys bs = by (eqb m frame_mark) (printed-append xs ys (drop answer_size bs)) (printed-append xs ys bs)
   where
     by : (o : Bool) → printed (xs ++ ys) (drop answer_size bs) ≡ printed xs (drop answer_size bs) ++ printed ys (drop (answer_size * frames_marked xs) (drop answer_size bs))
         → printed (xs ++ ys) bs ≡ printed xs bs ++ printed ys (drop (answer_size * frames_marked xs) bs)
@@ -105,7 +105,7 @@ module _ (size n : ℕ) (bs : List ℕ) where
 pub marked-front : (ms bs : List ℕ) → marked_lines ms (take (frame_size * frames_marked ms) bs) ≡ marked_lines ms bs
 unfolding marked_lines frames_marked
 marked-front [] bs = refl
-marked-front (m ∷ ms) bs = by (eqb m FRAME) (marked-front ms (drop frame_size bs)) (marked-front ms bs)
+marked-front (m ∷ ms) bs = by (eqb m frame_mark) (marked-front ms (drop frame_size bs)) (marked-front ms bs)
   where
     marked : Bool → List ℕ → List Line
     marked o cs = cond o (frame (decode (take frame_size cs)) ∷ marked_lines ms (drop frame_size cs)) (other ∷ marked_lines ms cs)
@@ -122,10 +122,10 @@ marked-same ms bs cs e = sym (marked-front ms bs) ∙ ap (λ ds. marked_lines ms
 pub printed-front : (ms bs : List ℕ) → printed ms (take (answer_size * frames_marked ms) bs) ≡ printed ms bs
 unfolding printed printed_line frames_marked
 printed-front [] bs = refl
-printed-front (m ∷ ms) bs = by (eqb m FRAME) (printed-front ms (drop answer_size bs)) (printed-front ms bs)
+printed-front (m ∷ ms) bs = by (eqb m frame_mark) (printed-front ms (drop answer_size bs)) (printed-front ms bs)
   where
     shown : Bool → List ℕ → List ℕ
-    shown o cs = printed_answer (cond o (take answer_size cs) (encode (refused NOT-A-FRAME))) ++ printed ms (cond o (drop answer_size cs) cs)
+    shown o cs = printed_answer (cond o (take answer_size cs) (encode (refused not_a_frame_number))) ++ printed ms (cond o (drop answer_size cs) cs)
 
     by : (o : Bool) → printed ms (take (answer_size * frames_marked ms) (drop answer_size bs)) ≡ printed ms (drop answer_size bs)
         → printed ms (take (answer_size * frames_marked ms) bs) ≡ printed ms bs

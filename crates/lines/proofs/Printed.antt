@@ -11,57 +11,57 @@ use lib.Dec.{eqb}
 use lib.ListN.{length, get_or, take, drop, length-drop}
 use lib.Seq.{take-suc, take-add, take_all, take-paste, length-take-le, length-paste, paste}
 use borrow.Author.Tests.{eq-eqb, ne_eqb}
-use Rattle.meaning.specs.Limits.{answer_size, NOT-A-FRAME}
+use Rattle.meaning.specs.Limits.{answer_size, not_a_frame_number}
 use Rattle.meaning.specs.Frames.{to_bytes, encode}
 use Rattle.meaning.specs.Serve.{refused}
 use Rattle.requests.specs.Requests.{answer_place}
 use Rattle.hexadecimal.specs.Text.{printed_answer, printed_size}
-use Rattle.lines.specs.Lines.{FRAME, frames_marked}
+use Rattle.lines.specs.Lines.{frame_mark, frames_marked}
 use Rattle.lines.specs.Printing.{printed_line, printed, CanPrintLine, PrintsLine, CanPrint, Prints}
 use Rattle.lines.proofs.Marks.{counted-append, printed-append}
 use Rattle.hexadecimal.proofs.Pairs.{row-length}
 
 -- ---- a line
 
-refused-length : length (encode (refused NOT-A-FRAME)) ≡ answer_size
+refused-length : length (encode (refused not_a_frame_number)) ≡ answer_size
 unfolding encode to_bytes refused
 refused-length = refl
 
-one-frame : (mark : ℕ) → mark ≡ FRAME → frames_marked (mark ∷ []) ≡ 1
+one-frame : (mark : ℕ) → mark ≡ frame_mark → frames_marked (mark ∷ []) ≡ 1
 unfolding frames_marked
-one-frame mark e = rw (eq-eqb mark FRAME e)
+one-frame mark e = rw (eq-eqb mark frame_mark e)
 
-no_frames : (mark : ℕ) → mark ≢ FRAME → frames_marked (mark ∷ []) ≡ 0
+no_frames : (mark : ℕ) → mark ≢ frame_mark → frames_marked (mark ∷ []) ≡ 0
 unfolding frames_marked
-no_frames mark f = rw (ne_eqb mark FRAME f)
+no_frames mark f = rw (ne_eqb mark frame_mark f)
 
 module _ (mark : ℕ) (answers : List ℕ) (frames : ℕ) (out : List ℕ) (at : ℕ) (can : CanPrintLine mark answers frames out at) where
-  pub frame-answered : mark ≡ FRAME → answer_place frames + answer_size ≤ length answers
+  pub frame-answered : mark ≡ frame_mark → answer_place frames + answer_size ≤ length answers
   frame-answered e = omega (arith, can.answered, one-frame mark e)
 
-  pub frame-prints : (out' : List ℕ) (start : ℕ) → mark ≡ FRAME → start ≡ answer_place frames
+  pub frame-prints : (out' : List ℕ) (start : ℕ) → mark ≡ frame_mark → start ≡ answer_place frames
       → out' ≡ paste out at (printed_answer (take (start + answer_size - start) (drop start answers))) printed_size
       → PrintsLine mark answers frames out at (frames + 1) out'
   unfolding printed_line
   frame-prints out' start e begins p =
       let s : start + answer_size - start ≡ answer_size = omega arith in
-      record { counted = rw (one-frame mark e); text = rw (eq-eqb mark FRAME e) (rw (s, begins) at p) }
+      record { counted = rw (one-frame mark e); text = rw (eq-eqb mark frame_mark e) (rw (s, begins) at p) }
 
-  pub other-prints : (out' : List ℕ) → mark ≢ FRAME → out' ≡ paste out at (printed_answer (NOT-A-FRAME ∷ 0 ∷ 0 ∷ 0 ∷ 0 ∷ 0 ∷ [])) printed_size
+  pub other-prints : (out' : List ℕ) → mark ≢ frame_mark → out' ≡ paste out at (printed_answer (not_a_frame_number ∷ 0 ∷ 0 ∷ 0 ∷ 0 ∷ 0 ∷ [])) printed_size
       → PrintsLine mark answers frames out at frames out'
   unfolding printed_line encode to_bytes refused
-  other-prints out' f p = record { counted = omega (arith, no_frames mark f); text = rw (ne_eqb mark FRAME f) p }
+  other-prints out' f p = record { counted = omega (arith, no_frames mark f); text = rw (ne_eqb mark frame_mark f) p }
 
   line-length : length (printed_line mark (drop (answer_place frames) answers)) ≡ printed_size
   unfolding printed_line frames_marked
-  line-length = by (eqb mark FRAME) can.answered
+  line-length = by (eqb mark frame_mark) can.answered
     where
       bs : List ℕ
       bs = drop (answer_place frames) answers
 
-      by : (o : Bool) → answer_size * (frames + cond o 1 0) ≤ length answers → length (printed_answer (cond o (take answer_size bs) (encode (refused NOT-A-FRAME)))) ≡ printed_size
+      by : (o : Bool) → answer_size * (frames + cond o 1 0) ≤ length answers → length (printed_answer (cond o (take answer_size bs) (encode (refused not_a_frame_number)))) ≡ printed_size
       by true l = row-length (take answer_size bs) (length-take-le answer_size bs (simp length-drop (omega arith)))
-      by false l = row-length (encode (refused NOT-A-FRAME)) refused-length
+      by false l = row-length (encode (refused not_a_frame_number)) refused-length
 
 -- ---- lines
 

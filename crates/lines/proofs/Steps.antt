@@ -16,7 +16,7 @@ use Rattle.meaning.specs.Counting.{bit}
 use Rattle.meaning.specs.Program.{line_feed, all_digits, from_hex}
 use Rattle.requests.specs.Requests.{frame_place}
 use Rattle.hexadecimal.specs.Text.{line_size}
-use Rattle.lines.specs.Lines.{too_long, whole_lines, left_over, Keeps, FRAME, marked_lines, frames_marked}
+use Rattle.lines.specs.Lines.{too_long, whole_lines, left_over, Keeps, frame_mark, marked_lines, frames_marked}
 use Rattle.lines.specs.Reading.{HasRoom, EndsLine, FrameAt, Reads, Bounded, CanReadOn, ReadsOn, ReadsPiece}
 use Rattle.lines.proofs.Turns.{byte-read, feed-read, frame-read}
 
@@ -32,7 +32,7 @@ module _ (is_frame : Bool) (digits marks requests : List ℕ) (lines frames : �
   pub ends-other : is_frame ≡ false → EndsLine is_frame digits marks requests lines frames (set marks lines 0) requests frames
   ends-other e = record { marked = rw e; read = rw e; counted = rw e (omega arith) }
 
-  pub ends-frame : (marks' requests' : List ℕ) → is_frame ≡ true → marks' ≡ set marks lines FRAME → requests' ≡ paste requests (frame_place frames) (from_hex digits) frame_size
+  pub ends-frame : (marks' requests' : List ℕ) → is_frame ≡ true → marks' ≡ set marks lines frame_mark → requests' ≡ paste requests (frame_place frames) (from_hex digits) frame_size
       → EndsLine is_frame digits marks requests lines frames marks' requests' (frames + 1)
   ends-frame marks' requests' e p q = record { marked = rw e p; read = rw e q; counted = rw e }
 
@@ -103,7 +103,7 @@ module _ (piece : List ℕ) (at len : ℕ) (marks requests : List ℕ) (lines fr
         reads = λ line r. rw (next-is, f) (feed-read line (take at piece) bytes len marks requests lines frames r marks' requests' frames' has_room h);
       }
 
-  pub frame_on : (bytes marks' requests' : List ℕ) → len ≡ 0 → FrameAt piece at → marks' ≡ set marks lines FRAME → requests' ≡ paste requests (frame_place frames) (from_hex (take (at + line_size - at) (drop at piece))) frame_size
+  pub frame_on : (bytes marks' requests' : List ℕ) → len ≡ 0 → FrameAt piece at → marks' ≡ set marks lines frame_mark → requests' ≡ paste requests (frame_place frames) (from_hex (take (at + line_size - at) (drop at piece))) frame_size
       → ReadsOn piece bytes at len marks requests lines frames bytes (at + line_size + 1) 0 marks' requests' (lines + 1) (frames + 1)
   frame_on bytes marks' requests' z h p q =
       let q' : requests' ≡ paste requests (frame_place frames) (from_hex (digits piece at h)) frame_size = rw (part-size at line_size) at q in

@@ -30,14 +30,14 @@ pub record Keeps (bytes : List ℕ) (len : ℕ) (begun : List ℕ) : Type 0 wher
 -- ---- marks and request bytes
 
 -- the mark of a line that is a frame; any other marks any other line
-abbrev pub FRAME : ℕ
-FRAME = 1
+abbrev pub frame_mark : ℕ
+frame_mark = 1
 
 -- each mark of a frame takes the next bytes as its frame
 unfoldable pub marked_lines : (marks requests : List ℕ) → List Line
 marked_lines [] bs = []
-marked_lines (m ∷ ms) bs = cond (eqb m FRAME) (frame (decode (take frame_size bs)) ∷ marked_lines ms (drop frame_size bs)) (other ∷ marked_lines ms bs)
+marked_lines (m ∷ ms) bs = cond (eqb m frame_mark) (frame (decode (take frame_size bs)) ∷ marked_lines ms (drop frame_size bs)) (other ∷ marked_lines ms bs)
 
 unfoldable pub frames_marked : (marks : List ℕ) → ℕ
 frames_marked [] = 0
-frames_marked (m ∷ ms) = cond (eqb m FRAME) (suc (frames_marked ms)) (frames_marked ms)
+frames_marked (m ∷ ms) = cond (eqb m frame_mark) (suc (frames_marked ms)) (frames_marked ms)

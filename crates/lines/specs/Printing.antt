@@ -1,21 +1,21 @@
 -- Answers to marked lines as text.
 use Rattle.std.specs.Prelude.{◌≡◌, cond, List, [], ◌∷◌, ◌++◌, ℕ, ◌+◌, ◌*◌, ◌≤◌, eqb, length, take, drop}
 use Rattle.std.proofs.Math.Seq.{paste}
-use Rattle.meaning.specs.Limits.{answer_size, NOT-A-FRAME}
+use Rattle.meaning.specs.Limits.{answer_size, not_a_frame_number}
 use Rattle.meaning.specs.Frames.{encode}
 use Rattle.meaning.specs.Serve.{refused}
 use Rattle.requests.specs.Requests.{answer_place}
 use Rattle.hexadecimal.specs.Text.{printed_size, printed_answer}
-use Rattle.lines.specs.Lines.{FRAME, frames_marked}
+use Rattle.lines.specs.Lines.{frame_mark, frames_marked}
 
 -- the answer to a line of that mark, from what is left of the answers
 unfoldable pub printed_line : (mark : ℕ) → (answers : List ℕ) → List ℕ
-printed_line m bs = printed_answer (cond (eqb m FRAME) (take answer_size bs) (encode (refused NOT-A-FRAME)))
+printed_line m bs = printed_answer (cond (eqb m frame_mark) (take answer_size bs) (encode (refused not_a_frame_number)))
 
 -- the next answer for each frame, 14 for any other line
 unfoldable pub printed : (marks answers : List ℕ) → List ℕ
 printed [] bs = []
-printed (m ∷ ms) bs = printed_line m bs ++ printed ms (cond (eqb m FRAME) (drop answer_size bs) bs)
+printed (m ∷ ms) bs = printed_line m bs ++ printed ms (cond (eqb m frame_mark) (drop answer_size bs) bs)
 
 -- ---- what printing asks and promises
 

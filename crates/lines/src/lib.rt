@@ -7,7 +7,7 @@ ghost use Rattle.meaning.specs.Limits.{frame_size};
 ghost use Rattle.meaning.specs.Program.{all_digits, from_hex};
 ghost use Rattle.requests.specs.Requests.{frame_place};
 ghost use Rattle.hexadecimal.specs.Text.{line_size};
-ghost use Rattle.lines.specs.Lines.{too_long, Keeps, FRAME};
+ghost use Rattle.lines.specs.Lines.{too_long, Keeps, frame_mark};
 ghost use Rattle.lines.specs.Reading.{HasRoom, EndsLine, FrameAt, CanRead, CanReadOn, ReadsOn, ReadsPiece};
 ghost use Rattle.lines.specs.Printing.{CanPrintLine, PrintsLine, CanPrint, Prints};
 
@@ -67,7 +67,7 @@ fn keep_byte(begun: &mut [u8; LINE_SIZE], len: usize, b: u8) -> usize
 
 fn mark_frame(text: &[u8], marks: &mut [u8], requests: &mut [u8], lines: usize, frames: usize)
     requires { (length text.now ≡ line_size) × (all_digits text.now ≡ true) × HasRoom marks.old requests.old lines frames }
-    ensures { (marks.new ≡ set marks.old lines FRAME)
+    ensures { (marks.new ≡ set marks.old lines frame_mark)
         × (requests.new ≡ paste requests.old (frame_place frames) (from_hex text.now) frame_size) }
 {
     hexadecimal::put_frame(text, requests, requests::frame_place(frames));

@@ -8,7 +8,7 @@ use native.Mathlib.Nat.{le_trans, div-le_self}
 use native.Mathlib.Omega.{arith}
 use lib.Dec.{eqb, leb}
 use lib.ListN.{get_or, set}
-use Rattle.meaning.specs.Limits.{word_width, DONE, NO-NODES}
+use Rattle.meaning.specs.Limits.{word_width, done_number, no_nodes_number}
 use Rattle.meaning.specs.Counting.{Each}
 use Rattle.meaning.specs.Shape.{degree, bits_to_write, if_left, levels, height}
 use Rattle.meaning.specs.Table.{Party, Table, fresh_party, party_at}
@@ -26,7 +26,7 @@ use Rattle.meaning.proofs.Lists.{many-le}
 abbrev pub verdict : Supply → Frame → Table → ℕ
 verdict s f t = first_of (checks (op_of f) s f (seen_by f (party_at t (giver f)) (party_at t (taker f))))
 
-pub respond-number : (n : ℕ) (t : Party) (r : Party × Answer) → r.1.number ≡ DONE → (respond n t r).1.number ≡ n
+pub respond-number : (n : ℕ) (t : Party) (r : Party × Answer) → r.1.number ≡ done_number → (respond n t r).1.number ≡ n
 unfolding respond refused
 respond-number zero t r e = e
 respond-number (suc n) t r e = refl
@@ -44,13 +44,13 @@ first-le k (c ∷ cs) h = pick c.applies (first-le k cs h.1)
     pick true l = h.0
     pick false l = l
 
-checks-le : (o : Op) (s : Supply) (f : Frame) (x : Seen) → Each (λ (c : Check). c.number ≤ NO-NODES) (checks o s f x)
+checks-le : (o : Op) (s : Supply) (f : Frame) (x : Seen) → Each (λ (c : Check). c.number ≤ no_nodes_number) (checks o s f x)
 unfolding entry_checks find_checks earlier_checks nodes_check checks ◌if◌
 checks-le o s f x = omega arith
 
 -- a frame is answered 0 to 10
-pub number-le : (s : Supply) (f : Frame) (t : Table) → (serve s f t).1.number ≤ NO-NODES
-number-le s f t = rw serve-number (first-le NO-NODES (checks (op_of f) s f _) (checks-le (op_of f) s f _))
+pub number-le : (s : Supply) (f : Frame) (t : Table) → (serve s f t).1.number ≤ no_nodes_number
+number-le s f t = rw serve-number (first-le no_nodes_number (checks (op_of f) s f _) (checks-le (op_of f) s f _))
 
 -- ---- refusals
 
@@ -59,13 +59,13 @@ set_same [] n d = refl
 set_same (x ∷ xs) zero d = refl
 set_same {A} (x ∷ xs) (suc n) d = ap (λ (ys : List A). x ∷ ys) (set_same xs n d)
 
-respond-refused : (n : ℕ) (t : Party) (r : Party × Answer) → n ≢ DONE → respond n t r ≡ (t, refused n)
+respond-refused : (n : ℕ) (t : Party) (r : Party × Answer) → n ≢ done_number → respond n t r ≡ (t, refused n)
 unfolding respond
 respond-refused zero t r f = absurd (f refl)
 respond-refused (suc n) t r f = refl
 
 -- a refused frame changes nothing, and its answer is the number with fresh and value 0
-pub refused-same : (s : Supply) (f : Frame) (t : Table) → verdict s f t ≢ DONE → serve s f t ≡ (t, refused (verdict s f t))
+pub refused-same : (s : Supply) (f : Frame) (t : Table) → verdict s f t ≢ done_number → serve s f t ≡ (t, refused (verdict s f t))
 unfolding serve step party_at
 refused-same s f t h = rw (respond-refused (verdict s f t) (party_at t (taker f)) _ h) (ap (λ (x : Table). (x, refused (verdict s f t))) (set_same t (taker f) fresh_party))
 

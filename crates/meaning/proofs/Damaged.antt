@@ -9,7 +9,7 @@ use native.Mathlib.Decide.{dec_lt}
 use lib.Dec.{eqb, lit≤}
 use lib.IntN.{ℤ, pos}
 use lib.ListN.{get_or, set, get_or-eq_default}
-use Rattle.meaning.specs.Limits.{node_cells, FREE, LEAF, walk_levels}
+use Rattle.meaning.specs.Limits.{node_cells, free_kind, leaf_kind, walk_levels}
 use Rattle.meaning.specs.Lent.{Level, no_level, WalkRecord, Lent, walk_record}
 use Rattle.meaning.specs.Links.{roots, cell_links, Reached, by_root, by_cell}
 use Rattle.meaning.specs.WellFormed.{LegalWalk, WellFormed}
@@ -39,7 +39,7 @@ trailing w = let e : ◌≡◌ {A = ℕ} 5 0 = w.spare 1 1 (λ f. omega arith) (
 
 -- a node leaked: 5 is a leaf, and nothing reaches it
 abbrev leaky : Lent
-leaky = state (set some_kinds 5 LEAF) some_counts some_cells some_order some_indices
+leaky = state (set some_kinds 5 leaf_kind) some_counts some_cells some_order some_indices
 
 no-link : (m : ℕ) → cell_links leaky.nodes m 5 ≡ 0
 unfolding opened
@@ -47,7 +47,7 @@ no-link m = pick (dec_lt m 7)
   where
     pick : Dec (m < 7) → cell_links leaky.nodes m 5 ≡ 0
     pick (yes l) = eqb-true _ _ (many-each 7 (λ k. eqb (cell_links leaky.nodes k 5) 0) refl m l)
-    pick (no f) = let past : 7 ≤ m = omega arith in rw (get_or-eq_default (set some_kinds 5 LEAF) FREE past)
+    pick (no f) = let past : 7 ≤ m = omega arith in rw (get_or-eq_default (set some_kinds 5 leaf_kind) free_kind past)
 
 not-reached : {n : ℕ} → Reached leaky.nodes (roots leaky) n → n ≡ 5 → ⊥
 unfolding opened

@@ -4,7 +4,7 @@ use mathlib.Core.List.{[], ◌∷◌}
 use Prim.Native.Nat.{ℕ, suc}
 use lib.Count.{count_leading_zeros}
 use lib.ListN.{length, get_or}
-use Rattle.meaning.specs.Limits.{NEW, CLONE, RELEASE, LEN, GET, SET, PUSH-BACK, DROP-LAST, OPEN-WALK, NEXT, NEXT-BACK, CLOSE-WALK, HAND-OVER, FREE-NODES, FIRST, LAST, COMPARE, last_operation}
+use Rattle.meaning.specs.Limits.{new_code, clone_code, release_code, len_code, get_code, set_code, push_back_code, drop_last_code, open_walk_code, next_code, next_back_code, close_walk_code, hand_over_code, free_nodes_code, first_code, last_code, compare_code, last_operation}
 use Rattle.meaning.specs.Counting.{sum_to, how_many, divides}
 use Rattle.meaning.specs.Shape.{degree, bits_to_write, if_left, levels, height}
 use Rattle.meaning.specs.Operations.{Op, new, clone, release, len, get, set_at, push_back, drop_last, open_walk, next, next_back, close_walk, hand_over, free_nodes, first, last, compare, unknown, operations}
@@ -56,11 +56,11 @@ abbrev op_at : ℕ → Op
 op_at n = get_or operations n unknown
 
 -- a number is the place of its operation in the list, and there are no others
-pub numbered : (op_at NEW ≡ new) × (op_at CLONE ≡ clone) × (op_at RELEASE ≡ release) × (op_at LEN ≡ len)
-    × (op_at GET ≡ get) × (op_at SET ≡ set_at) × (op_at PUSH-BACK ≡ push_back) × (op_at DROP-LAST ≡ drop_last)
-    × (op_at OPEN-WALK ≡ open_walk) × (op_at NEXT ≡ next) × (op_at NEXT-BACK ≡ next_back) × (op_at CLOSE-WALK ≡ close_walk)
-    × (op_at HAND-OVER ≡ hand_over) × (op_at FREE-NODES ≡ free_nodes) × (op_at FIRST ≡ first) × (op_at LAST ≡ last)
-    × (op_at COMPARE ≡ compare)
+pub numbered : (op_at new_code ≡ new) × (op_at clone_code ≡ clone) × (op_at release_code ≡ release) × (op_at len_code ≡ len)
+    × (op_at get_code ≡ get) × (op_at set_code ≡ set_at) × (op_at push_back_code ≡ push_back) × (op_at drop_last_code ≡ drop_last)
+    × (op_at open_walk_code ≡ open_walk) × (op_at next_code ≡ next) × (op_at next_back_code ≡ next_back) × (op_at close_walk_code ≡ close_walk)
+    × (op_at hand_over_code ≡ hand_over) × (op_at free_nodes_code ≡ free_nodes) × (op_at first_code ≡ first) × (op_at last_code ≡ last)
+    × (op_at compare_code ≡ compare)
     × (length operations ≡ suc last_operation)
 unfolding operations
 numbered = (refl, refl, refl, refl, refl, refl, refl, refl, refl, refl, refl, refl, refl, refl, refl, refl, refl, refl)

@@ -12,7 +12,7 @@ use lib.IntN.{pos}
 use lib.ListN.{length, replicate, length-replicate}
 use lib.Seq.{take_all}
 use borrow.Author.Tests.{lt-ltb, le-ltb, eq-eqb, ne_eqb}
-use Rattle.meaning.specs.Limits.{max_nodes, node_cells, FREE, version_count, walk_count, all_numbers, places}
+use Rattle.meaning.specs.Limits.{max_nodes, node_cells, free_kind, version_count, walk_count, all_numbers, places}
 use Rattle.meaning.specs.Counting.{bit, occurrences, rows}
 use Rattle.meaning.specs.Lent.{Nodes, closed_record, empty_record, size, kind_of, is_free, free_nodes, free_order, child_count, walk_record, walk_records}
 use Rattle.meaning.specs.Links.{live_roots, roots, cell_links, links, Reached, by_root, by_cell}
@@ -65,14 +65,14 @@ module _ (N : ℕ) (cells : List ℕ) where
   unfolding roots live_roots fresh_state
   fresh-roots = rw fresh_walks
 
-  fresh-kind : (n : ℕ) → kind_of (fresh_state N cells).nodes n ≡ FREE
+  fresh-kind : (n : ℕ) → kind_of (fresh_state N cells).nodes n ≡ free_kind
   unfolding fresh_state
-  fresh-kind n = replicate-at N n FREE
+  fresh-kind n = replicate-at N n free_kind
 
   -- the nodes of a fresh state are all free
   pub fresh-free : free_nodes (fresh_state N cells).nodes ≡ N
   unfolding free_nodes is_free fresh_state
-  fresh-free = rw length-replicate (many-all N _ (λ k l. rw (length-replicate, lt-ltb k N l, replicate-at N k FREE)))
+  fresh-free = rw length-replicate (many-all N _ (λ k l. rw (length-replicate, lt-ltb k N l, replicate-at N k free_kind)))
 
   fresh-order : free_order (fresh_state N cells) ≡ down_from N
   unfolding free_order fresh_state
@@ -93,7 +93,7 @@ module _ (N : ℕ) (cells : List ℕ) where
 
   fresh-once : (n : ℕ) → occurrences n (free_order (fresh_state N cells)) ≡ bit (is_free (fresh_state N cells).nodes n)
   unfolding fresh_state is_free
-  fresh-once n = rw (fresh-order, down-occurs N n, length-replicate, replicate-at N n FREE) (ap bit (sym (and-true (ltb n N))))
+  fresh-once n = rw (fresh-order, down-occurs N n, length-replicate, replicate-at N n free_kind) (ap bit (sym (and-true (ltb n N))))
 
   pub fresh-well-formed : 1 ≤ N → N ≤ max_nodes → length cells ≡ node_cells * N → WellFormed (fresh_state N cells)
   unfolding fresh_state

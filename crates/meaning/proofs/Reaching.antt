@@ -9,7 +9,7 @@ use native.Mathlib.Nat.{lt_irrefl}
 use native.Mathlib.Omega.{arith}
 use lib.Dec.{eqb}
 use lib.ListN.{length}
-use Rattle.meaning.specs.Limits.{FREE}
+use Rattle.meaning.specs.Limits.{free_kind}
 use Rattle.meaning.specs.Counting.{sum_to, occurrences, Each}
 use Rattle.meaning.specs.Lent.{Nodes, kind_of, VersionRecord, WalkRecord, Lent, size, count_of, walk_records}
 use Rattle.meaning.specs.Trees.{Shaped, height_of}
@@ -30,7 +30,7 @@ pub record SomeShape (s : Nodes) (n : ℕ) : Type 0 where
   pub shape : Shaped s bits height elements n
 
 -- a node that has a shape is in use
-pub shaped-used : (s : Nodes) (bits h m n : ℕ) → Shaped s bits h m n → kind_of s n ≢ FREE
+pub shaped-used : (s : Nodes) (bits h m n : ℕ) → Shaped s bits h m n → kind_of s n ≢ free_kind
 unfolding Shaped
 shaped-used s bits zero m n p e = absurd (lt_irrefl zero (omega (arith, p.kind)))
 shaped-used s bits (suc h) m n p e = absurd (lt_irrefl zero (omega (arith, p.kind)))
@@ -99,7 +99,7 @@ all-shaped s hv hw r = reached-shaped (roots-shaped s hv hw) r
 
 -- what is reached is in use, by the shapes alone
 pub reached-used : (s : Lent) → Each (LegalVersion s.nodes) s.versions → Each (LegalWalk s.nodes) (walk_records s)
-    → {n : ℕ} → Reached s.nodes (roots s) n → kind_of s.nodes n ≢ FREE
+    → {n : ℕ} → Reached s.nodes (roots s) n → kind_of s.nodes n ≢ free_kind
 reached-used s hv hw {n} r =
     let k = all-shaped s hv hw r in shaped-used s.nodes k.bits k.height k.elements n k.shape
 
@@ -107,15 +107,15 @@ reached-used s hv hw {n} r =
 
 module _ (s : Lent) (w : WellFormed s) where
   -- each unreached node is of kind free
-  pub unreached-free : (n : ℕ) → (Reached s.nodes (roots s) n → ⊥) → kind_of s.nodes n ≡ FREE
-  unreached-free n f = pick (ℕ_discrete (kind_of s.nodes n) FREE)
+  pub unreached-free : (n : ℕ) → (Reached s.nodes (roots s) n → ⊥) → kind_of s.nodes n ≡ free_kind
+  unreached-free n f = pick (ℕ_discrete (kind_of s.nodes n) free_kind)
     where
-      pick : Dec (kind_of s.nodes n ≡ FREE) → kind_of s.nodes n ≡ FREE
+      pick : Dec (kind_of s.nodes n ≡ free_kind) → kind_of s.nodes n ≡ free_kind
       pick (yes e) = e
       pick (no g) = absurd (f ((w.reached n).0 g))
 
   -- and no other is
-  pub free-unreached : (n : ℕ) → kind_of s.nodes n ≡ FREE → Reached s.nodes (roots s) n → ⊥
+  pub free-unreached : (n : ℕ) → kind_of s.nodes n ≡ free_kind → Reached s.nodes (roots s) n → ⊥
   free-unreached n e r = (w.reached n).1 r e
 
   -- each node's count equals the links to it from slots, walks and cells of reached nodes

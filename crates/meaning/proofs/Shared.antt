@@ -13,7 +13,7 @@ use lib.Dec.{ltb, eqb, lit≤}
 use lib.IntN.{ℤ, pos}
 use lib.ListN.{length, replicate, get_or-eq_default}
 use borrow.Author.Tests.{eqb-true, ne_eqb, le-ltb}
-use Rattle.meaning.specs.Limits.{node_cells, FREE, LEAF, BRANCH, walk_levels}
+use Rattle.meaning.specs.Limits.{node_cells, free_kind, leaf_kind, branch_kind, walk_levels}
 use Rattle.meaning.specs.Counting.{sum_to, bit, how_many, occurrences, rows, Each}
 use Rattle.meaning.specs.Lent.{VersionRecord, empty_record, Lent, kind_of, used_of, cell_of, count_of, is_free, free_nodes, free_order, child_count, walk_record, walk_records}
 use Rattle.meaning.specs.Shape.{degree, bits_to_write, if_left, levels, height, bucket}
@@ -37,7 +37,7 @@ unfoldable pub two : {A : Type 0} → A → A → A → List A
 two a b z = a ∷ b ∷ replicate (walk_levels - 2) z
 
 unfoldable pub some_kinds : List ℕ
-some_kinds = LEAF ∷ LEAF ∷ BRANCH ∷ LEAF ∷ BRANCH ∷ FREE ∷ FREE ∷ []
+some_kinds = leaf_kind ∷ leaf_kind ∷ branch_kind ∷ leaf_kind ∷ branch_kind ∷ free_kind ∷ free_kind ∷ []
 
 unfoldable pub some_counts : List ℕ
 some_counts = 2 ∷ 1 ∷ 1 ∷ 1 ∷ 2 ∷ 0 ∷ 0 ∷ []
@@ -107,7 +107,7 @@ unfoldable pub opened : ℕ
 unfolding shared node sum_to how_many occurrences rows is_free free_nodes free_order child_count walk_record walk_records height degree bucket levels if_left bits_to_write count_leading_zeros live_roots roots cell_links links way stack padded forward_stack backward_stack
 opened = 0
 
-reach : (n : ℕ) → kind_of shared.nodes n ≢ FREE → Reached shared.nodes (roots shared) n
+reach : (n : ℕ) → kind_of shared.nodes n ≢ free_kind → Reached shared.nodes (roots shared) n
 unfolding opened
 reach zero f = by_cell {m = 2} (by_root (lit≤ tt)) (lit≤ tt)
 reach (suc zero) f = by_cell {m = 2} (by_root (lit≤ tt)) (lit≤ tt)
@@ -182,14 +182,14 @@ walks-legal = (
 -- ---- clauses on every node, by tests that compute
 
 -- a number is a node's, or it is past them all and its kind reads free
-kind-past : (n : ℕ) → 7 ≤ n → kind_of shared.nodes n ≡ FREE
+kind-past : (n : ℕ) → 7 ≤ n → kind_of shared.nodes n ≡ free_kind
 unfolding shared
-kind-past n l = get_or-eq_default shared.nodes.kinds FREE l
+kind-past n l = get_or-eq_default shared.nodes.kinds free_kind l
 
 spare-cell : (n i : ℕ) → Bool
-spare-cell n i = (eqb (kind_of shared.nodes n) FREE || ltb i (used_of shared.nodes n)) || eqb (cell_of shared.nodes n i) 0
+spare-cell n i = (eqb (kind_of shared.nodes n) free_kind || ltb i (used_of shared.nodes n)) || eqb (cell_of shared.nodes n i) 0
 
-spare : (n i : ℕ) → kind_of shared.nodes n ≢ FREE → used_of shared.nodes n ≤ i → i < node_cells → cell_of shared.nodes n i ≡ 0
+spare : (n i : ℕ) → kind_of shared.nodes n ≢ free_kind → used_of shared.nodes n ≤ i → i < node_cells → cell_of shared.nodes n i ≡ 0
 unfolding opened spare-cell
 spare n i f u l = pick (dec_lt n 7)
   where
@@ -198,7 +198,7 @@ spare n i f u l = pick (dec_lt n 7)
     pick (yes k) =
         let each = eqb-true _ _ (many-each 7 (λ m. eqb (how_many node_cells (spare-cell m)) node_cells) refl n k) in
         let t : spare-cell n i ≡ true = many-each node_cells (spare-cell n) each i l in
-        eqb-true _ _ (rw (ne_eqb (kind_of shared.nodes n) FREE f, le-ltb i (used_of shared.nodes n) u) at t)
+        eqb-true _ _ (rw (ne_eqb (kind_of shared.nodes n) free_kind f, le-ltb i (used_of shared.nodes n) u) at t)
 
 once : (n : ℕ) → occurrences n (free_order shared) ≡ bit (is_free shared.nodes n)
 unfolding opened
@@ -210,9 +210,9 @@ once n = pick (dec_lt n 7)
 
 -- used and count, of a free node
 free-test : (n : ℕ) → Bool
-free-test n = not (eqb (kind_of shared.nodes n) FREE) || eqb (used_of shared.nodes n + count_of shared n) 0
+free-test n = not (eqb (kind_of shared.nodes n) free_kind) || eqb (used_of shared.nodes n + count_of shared n) 0
 
-free-zero : (n : ℕ) → n < 7 → kind_of shared.nodes n ≡ FREE → (used_of shared.nodes n ≡ 0) × (count_of shared n ≡ 0)
+free-zero : (n : ℕ) → n < 7 → kind_of shared.nodes n ≡ free_kind → (used_of shared.nodes n ≡ 0) × (count_of shared n ≡ 0)
 unfolding opened free-test
 free-zero n l e =
     let t = many-each 7 free-test refl n l in

@@ -1,6 +1,6 @@
 -- "Requests come as a batch": bytes in, bytes out, one report.
 use Rattle.std.specs.Prelude.{Bool, not, List, [], ◌∷◌, ◌++◌, ℕ, zero, suc, ◌*◌, ◌/◌, ltb, length, take, drop}
-use Rattle.meaning.specs.Limits.{frame_size, answer_size, DONE, ILL-FORMED, NO-ROOM, RAGGED}
+use Rattle.meaning.specs.Limits.{frame_size, answer_size, done_number, ill_formed_number, no_room_number, ragged_number}
 use Rattle.meaning.specs.Counting.{divides}
 use Rattle.meaning.specs.Table.{Table}
 use Rattle.meaning.specs.Frames.{decode, encode}
@@ -11,9 +11,9 @@ use Rattle.meaning.specs.Serve.{Call, Reply, run}
 -- batch checks run 13, 12, 11
 unfoldable pub batch_checks : (well_formed : Bool) → (requests room : List ℕ) → List Check
 batch_checks well_formed requests room =
-    (RAGGED if not (divides frame_size (length requests)))
-    ∷ (NO-ROOM if ltb (length room) (answer_size * (length requests / frame_size)))
-    ∷ (ILL-FORMED if not well_formed)
+    (ragged_number if not (divides frame_size (length requests)))
+    ∷ (no_room_number if ltb (length room) (answer_size * (length requests / frame_size)))
+    ∷ (ill_formed_number if not well_formed)
     ∷ []
 
 -- the first k frames of the request bytes, each with the nodes that are free when it comes
@@ -33,7 +33,7 @@ pub record Outcome : Type 0 where
 
 -- a batch that is refused writes nothing and reports 0 frames; answer room beyond 6 bytes a frame stays untouched
 unfoldable pub outcome : (number : ℕ) → (count : ℕ) → (room : List ℕ) → Table → (ran : Table × List Reply) → Outcome
-outcome zero k room t ran = record { number = DONE; frames = k; room = answer_bytes ran.1 ++ drop (answer_size * k) room; table = ran.0 }
+outcome zero k room t ran = record { number = done_number; frames = k; room = answer_bytes ran.1 ++ drop (answer_size * k) room; table = ran.0 }
 outcome (suc n) k room t ran = record { number = suc n; frames = 0; room = room; table = t }
 
 -- with so many nodes free at each frame

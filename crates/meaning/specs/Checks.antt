@@ -1,6 +1,6 @@
 -- "Numbers given back": the frame checks 1 to 10, in that order; the first that applies is answered.
 use Rattle.std.specs.Prelude.{Bool, false, cond, not, ◌&&◌, ◌||◌, List, [], ◌∷◌, ◌++◌, ℕ, leb, ltb, eqb, length}
-use Rattle.meaning.specs.Limits.{last_party, last_slot, last_walk, last_operation, host, max_bits, max_length, DONE, NO-PARTY, NO-OPERATION, HOST-ONLY, OUT-OF-RANGE, EMPTY-SOURCE, LIVE-TARGET, BAD-BITS, NOTHING-THERE, FULL, NO-NODES}
+use Rattle.meaning.specs.Limits.{last_party, last_slot, last_walk, last_operation, host, max_bits, max_length, done_number, no_party_number, no_operation_number, host_only_number, out_of_range_number, empty_source_number, live_target_number, bad_bits_number, nothing_there_number, full_number, no_nodes_number}
 use Rattle.meaning.specs.Table.{Version, Party, slot_at, walk_at, is_live, is_open, version, rest}
 use Rattle.meaning.specs.Frames.{Frame}
 use Rattle.meaning.specs.Operations.{Op, Role, unused, source, filled, walked, opened, owner, bits, position, element, Want, nothing, item_at_index, an_item, item_left, room, Uses, uses}
@@ -89,21 +89,21 @@ n if b = record { number = n; applies = b }
 unfoldable pub entry_checks : Op → Frame → Standing → List Check
 entry_checks o f x =
     let u = uses o in
-    (NO-PARTY if ltb last_party f.party)
-    ∷ (NO-OPERATION if ltb last_operation f.operation)
-    ∷ (HOST-ONLY if u.host_only && not (eqb f.party host))
-    ∷ (OUT-OF-RANGE if any_field u f x (λ y. y.out_of_range))
-    ∷ (EMPTY-SOURCE if any_field u f x (λ y. y.empty_source))
-    ∷ (LIVE-TARGET if any_field u f x (λ y. y.live_target))
+    (no_party_number if ltb last_party f.party)
+    ∷ (no_operation_number if ltb last_operation f.operation)
+    ∷ (host_only_number if u.host_only && not (eqb f.party host))
+    ∷ (out_of_range_number if any_field u f x (λ y. y.out_of_range))
+    ∷ (empty_source_number if any_field u f x (λ y. y.empty_source))
+    ∷ (live_target_number if any_field u f x (λ y. y.live_target))
     ∷ []
 
 -- 7 to 9: what the operation does not find
 unfoldable pub find_checks : Op → Frame → Seen → List Check
 find_checks o f x =
     let u = uses o in
-    (BAD-BITS if any_field u f x.standing (λ y. y.bad_bits))
-    ∷ (NOTHING-THERE if nothing_there u.wants f.index x)
-    ∷ (FULL if is_full u.wants x)
+    (bad_bits_number if any_field u f x.standing (λ y. y.bad_bits))
+    ∷ (nothing_there_number if nothing_there u.wants f.index x)
+    ∷ (full_number if is_full u.wants x)
     ∷ []
 
 -- 1 to 9
@@ -113,7 +113,7 @@ earlier_checks o f x = entry_checks o f x.standing ++ find_checks o f x
 
 -- 10: fewer free nodes than the charge
 unfoldable pub nodes_check : Op → Supply → Seen → Check
-nodes_check o s x = NO-NODES if is_short s.spend (cost o x.bits x.length).charge
+nodes_check o s x = no_nodes_number if is_short s.spend (cost o x.bits x.length).charge
 
 unfoldable pub checks : Op → Supply → Frame → Seen → List Check
 unfolding earlier_checks
@@ -121,7 +121,7 @@ checks o s f x = earlier_checks o f x ++ (nodes_check o s x ∷ [])
 
 -- the number of the first that applies, or 0
 unfoldable pub first_of : List Check → ℕ
-first_of [] = DONE
+first_of [] = done_number
 first_of (c ∷ cs) = cond c.applies c.number (first_of cs)
 
 -- ---- what they see of the plain table

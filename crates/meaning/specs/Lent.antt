@@ -1,6 +1,6 @@
 -- "The state the host lends": lists of numbers, one for each lent slice, and how a node, a slot or a walk is read from them. What lies past the end of a list reads 0.
 use Rattle.std.specs.Prelude.{Bool, cond, ◌&&◌, List, ℕ, ◌+◌, ◌*◌, ltb, eqb, ℤ, pos, length, get_or, take, replicate}
-use Rattle.meaning.specs.Limits.{node_cells, FREE, BRANCH, party_slots, party_walks, walk_count, walk_levels, walk_numbers}
+use Rattle.meaning.specs.Limits.{node_cells, free_kind, branch_kind, party_slots, party_walks, walk_count, walk_levels, walk_numbers}
 use Rattle.meaning.specs.Counting.{how_many, rows}
 
 -- ---- what is lent
@@ -36,7 +36,7 @@ size s = length s.nodes.kinds
 -- ---- nodes
 
 abbrev pub kind_of : Nodes → (n : ℕ) → ℕ
-kind_of s n = get_or s.kinds n FREE
+kind_of s n = get_or s.kinds n free_kind
 
 abbrev pub used_of : Nodes → (n : ℕ) → ℕ
 used_of s n = get_or s.used n 0
@@ -49,7 +49,7 @@ count_of s n = get_or s.counts n 0
 
 -- a node, and of kind free
 unfoldable pub is_free : Nodes → (n : ℕ) → Bool
-is_free s n = ltb n (length s.kinds) && eqb (kind_of s n) FREE
+is_free s n = ltb n (length s.kinds) && eqb (kind_of s n) free_kind
 
 unfoldable pub free_nodes : Nodes → ℕ
 free_nodes s = how_many (length s.kinds) (is_free s)
@@ -59,7 +59,7 @@ free_order s = take (free_nodes s.nodes) s.order
 
 -- the cells of a node that hold node numbers: a branch's in use
 unfoldable pub child_count : Nodes → (n : ℕ) → ℕ
-child_count s n = cond (eqb (kind_of s n) BRANCH) (used_of s n) 0
+child_count s n = cond (eqb (kind_of s n) branch_kind) (used_of s n) 0
 
 -- ---- version records
 

@@ -12,14 +12,14 @@ abbrev pub node_cells : ℕ
 node_cells = 32
 
 -- the kinds of a node
-abbrev pub FREE : ℕ
-FREE = 0
+abbrev pub free_kind : ℕ
+free_kind = 0
 
-abbrev pub LEAF : ℕ
-LEAF = 1
+abbrev pub leaf_kind : ℕ
+leaf_kind = 1
 
-abbrev pub BRANCH : ℕ
-BRANCH = 2
+abbrev pub branch_kind : ℕ
+branch_kind = 2
 
 -- parties 0 to 7, and the version slots 0 to 7 and walks 0 and 1 of each
 abbrev pub last_party : ℕ
@@ -93,120 +93,120 @@ abbrev pub answer_size : ℕ
 answer_size = 6
 
 -- the operations by their numbers
-abbrev pub NEW : ℕ
-NEW = 0x00
+abbrev pub new_code : ℕ
+new_code = 0x00
 
-abbrev pub CLONE : ℕ
-CLONE = 0x01
+abbrev pub clone_code : ℕ
+clone_code = 0x01
 
-abbrev pub RELEASE : ℕ
-RELEASE = 0x02
+abbrev pub release_code : ℕ
+release_code = 0x02
 
-abbrev pub LEN : ℕ
-LEN = 0x03
+abbrev pub len_code : ℕ
+len_code = 0x03
 
-abbrev pub GET : ℕ
-GET = 0x04
+abbrev pub get_code : ℕ
+get_code = 0x04
 
-abbrev pub SET : ℕ
-SET = 0x05
+abbrev pub set_code : ℕ
+set_code = 0x05
 
-abbrev pub PUSH-BACK : ℕ
-PUSH-BACK = 0x06
+abbrev pub push_back_code : ℕ
+push_back_code = 0x06
 
-abbrev pub DROP-LAST : ℕ
-DROP-LAST = 0x07
+abbrev pub drop_last_code : ℕ
+drop_last_code = 0x07
 
-abbrev pub OPEN-WALK : ℕ
-OPEN-WALK = 0x08
+abbrev pub open_walk_code : ℕ
+open_walk_code = 0x08
 
-abbrev pub NEXT : ℕ
-NEXT = 0x09
+abbrev pub next_code : ℕ
+next_code = 0x09
 
-abbrev pub NEXT-BACK : ℕ
-NEXT-BACK = 0x0A
+abbrev pub next_back_code : ℕ
+next_back_code = 0x0A
 
-abbrev pub CLOSE-WALK : ℕ
-CLOSE-WALK = 0x0B
+abbrev pub close_walk_code : ℕ
+close_walk_code = 0x0B
 
-abbrev pub HAND-OVER : ℕ
-HAND-OVER = 0x0C
+abbrev pub hand_over_code : ℕ
+hand_over_code = 0x0C
 
-abbrev pub FREE-NODES : ℕ
-FREE-NODES = 0x0D
+abbrev pub free_nodes_code : ℕ
+free_nodes_code = 0x0D
 
-abbrev pub FIRST : ℕ
-FIRST = 0x0E
+abbrev pub first_code : ℕ
+first_code = 0x0E
 
-abbrev pub LAST : ℕ
-LAST = 0x0F
+abbrev pub last_code : ℕ
+last_code = 0x0F
 
-abbrev pub COMPARE : ℕ
-COMPARE = 0x10
+abbrev pub compare_code : ℕ
+compare_code = 0x10
 
 abbrev pub last_operation : ℕ
-last_operation = COMPARE
+last_operation = compare_code
 
 -- ---- "Numbers given back"
 
-abbrev pub DONE : ℕ
-DONE = 0
+abbrev pub done_number : ℕ
+done_number = 0
 
 -- party above 7
-abbrev pub NO-PARTY : ℕ
-NO-PARTY = 1
+abbrev pub no_party_number : ℕ
+no_party_number = 1
 
 -- operation above 10 hexadecimal
-abbrev pub NO-OPERATION : ℕ
-NO-OPERATION = 2
+abbrev pub no_operation_number : ℕ
+no_operation_number = 2
 
 -- 0C or 0D from a party other than 0
-abbrev pub HOST-ONLY : ℕ
-HOST-ONLY = 3
+abbrev pub host_only_number : ℕ
+host_only_number = 3
 
 -- a slot above 7, walk above 1, or named party above 7
-abbrev pub OUT-OF-RANGE : ℕ
-OUT-OF-RANGE = 4
+abbrev pub out_of_range_number : ℕ
+out_of_range_number = 4
 
 -- a named source slot is empty, or the walk is closed
-abbrev pub EMPTY-SOURCE : ℕ
-EMPTY-SOURCE = 5
+abbrev pub empty_source_number : ℕ
+empty_source_number = 5
 
 -- slot to be filled is live, or walk to be opened is open
-abbrev pub LIVE-TARGET : ℕ
-LIVE-TARGET = 6
+abbrev pub live_target_number : ℕ
+live_target_number = 6
 
 -- bits outside 1 to 5
-abbrev pub BAD-BITS : ℕ
-BAD-BITS = 7
+abbrev pub bad_bits_number : ℕ
+bad_bits_number = 7
 
 -- no element there
-abbrev pub NOTHING-THERE : ℕ
-NOTHING-THERE = 8
+abbrev pub nothing_there_number : ℕ
+nothing_there_number = 8
 
 -- push on length 32,768
-abbrev pub FULL : ℕ
-FULL = 9
+abbrev pub full_number : ℕ
+full_number = 9
 
 -- fewer free nodes than the charge
-abbrev pub NO-NODES : ℕ
-NO-NODES = 10
+abbrev pub no_nodes_number : ℕ
+no_nodes_number = 10
 
 -- state not well-formed
-abbrev pub ILL-FORMED : ℕ
-ILL-FORMED = 11
+abbrev pub ill_formed_number : ℕ
+ill_formed_number = 11
 
 -- answer room below 6 bytes a frame
-abbrev pub NO-ROOM : ℕ
-NO-ROOM = 12
+abbrev pub no_room_number : ℕ
+no_room_number = 12
 
 -- request bytes not a multiple of 12
-abbrev pub RAGGED : ℕ
-RAGGED = 13
+abbrev pub ragged_number : ℕ
+ragged_number = 13
 
 -- program only: a line that isn't a frame
-abbrev pub NOT-A-FRAME : ℕ
-NOT-A-FRAME = 14
+abbrev pub not_a_frame_number : ℕ
+not_a_frame_number = 14
 
 -- the nodes of the program's state
 abbrev pub program_nodes : ℕ

@@ -1,6 +1,6 @@
 -- The program: lines of hexadecimal in, lines of hexadecimal out. Bytes are numbers.
 use Rattle.std.specs.Prelude.{Bool, true, false, cond, ◌&&◌, ◌||◌, List, [], ◌∷◌, ◌++◌, ℕ, suc, ◌+◌, ◌-◌, ◌*◌, ◌/◌, ◌%◌, leb, ltb, eqb, length}
-use Rattle.meaning.specs.Limits.{frame_size, NOT-A-FRAME}
+use Rattle.meaning.specs.Limits.{frame_size, not_a_frame_number}
 use Rattle.meaning.specs.Table.{Table, fresh_table}
 use Rattle.meaning.specs.Frames.{Frame, Answer, decode, encode}
 use Rattle.meaning.specs.Supply.{Supply}
@@ -56,7 +56,7 @@ lines_of begun (b ∷ bs) = elim (eqb b line_feed) [ true ↦ read_line begun �
 unfoldable pub talk : List Line → (ℕ → Supply) → Table → List Answer
 talk [] free t = []
 talk (frame f ∷ ls) free t = let r = serve (free 0) f t in r.1 ∷ talk ls (λ n. free (suc n)) r.0
-talk (other ∷ ls) free t = refused NOT-A-FRAME ∷ talk ls (λ n. free (suc n)) t
+talk (other ∷ ls) free t = refused not_a_frame_number ∷ talk ls (λ n. free (suc n)) t
 
 unfoldable pub write : List Answer → List ℕ
 write [] = []

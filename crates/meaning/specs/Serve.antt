@@ -1,6 +1,6 @@
 -- What a frame does to the plain table and what it is answered; frames in order.
 use Rattle.std.specs.Prelude.{List, [], ◌∷◌, ℕ, zero, suc, set}
-use Rattle.meaning.specs.Limits.{DONE}
+use Rattle.meaning.specs.Limits.{done_number}
 use Rattle.meaning.specs.Table.{Party, Table, party_at}
 use Rattle.meaning.specs.Frames.{Frame, Answer}
 use Rattle.meaning.specs.Operations.{op_of, giver, taker}
@@ -26,7 +26,7 @@ step s f g t =
     let o = op_of f in
     let x = seen_by f g t in
     let e = effect o s f (source_of g f) (left_of g f) t in
-    respond (first_of (checks o s f x)) t (e.0, record { number = DONE; fresh = (cost o x.bits x.length).fresh; value = e.1 })
+    respond (first_of (checks o s f x)) t (e.0, record { number = done_number; fresh = (cost o x.bits x.length).fresh; value = e.1 })
 
 -- on the table
 unfoldable pub serve : Supply → Frame → Table → Table × Answer

@@ -1,6 +1,6 @@
 -- "Shape of a version", in nodes: which nodes are a version of a given length, and where its elements stand.
 use Rattle.std.specs.Prelude.{◌≡◌, List, ℕ, zero, suc, ◌+◌, ◌-◌, ◌*◌, ◌^◌, ◌≤◌, ◌<◌, min}
-use Rattle.meaning.specs.Limits.{LEAF, BRANCH}
+use Rattle.meaning.specs.Limits.{leaf_kind, branch_kind}
 use Rattle.meaning.specs.Counting.{rows}
 use Rattle.meaning.specs.Lent.{Nodes, kind_of, used_of, cell_of, VersionRecord}
 use Rattle.meaning.specs.Shape.{degree, height, bucket}
@@ -9,13 +9,13 @@ use Rattle.meaning.specs.Shape.{degree, height, bucket}
 
 -- node n is a leaf of m elements
 pub record Leaf (s : Nodes) (bits m n : ℕ) : Type 0 where
-  pub kind : kind_of s n ≡ LEAF
+  pub kind : kind_of s n ≡ leaf_kind
   pub used : used_of s n ≡ m
   pub room : m ≤ degree bits
 
 -- node n is a branch over m elements, whose children hold c each when they are full
 pub record Branch (s : Nodes) (bits c m n : ℕ) (Child : (m n : ℕ) → Type 0) : Type 0 where
-  pub kind : kind_of s n ≡ BRANCH
+  pub kind : kind_of s n ≡ branch_kind
   pub room : used_of s n ≤ degree bits
   -- its children have room for m elements
   pub enough : m ≤ used_of s n * c

@@ -1,6 +1,6 @@
 -- "The state is well-formed if": the paragraph of document 01, clause by clause.
 use Rattle.std.specs.Prelude.{◌≡◌, ◌≢◌, ◌⊎◌, ◌↔◌, ℕ, ◌+◌, ◌*◌, ◌≤◌, ◌<◌, length}
-use Rattle.meaning.specs.Limits.{max_nodes, node_cells, FREE, version_count, max_bits, max_length, all_numbers, places}
+use Rattle.meaning.specs.Limits.{max_nodes, node_cells, free_kind, version_count, max_bits, max_length, all_numbers, places}
 use Rattle.meaning.specs.Counting.{bit, occurrences, Each}
 use Rattle.meaning.specs.Lent.{Nodes, kind_of, used_of, cell_of, VersionRecord, empty_record, WalkRecord, closed_record, Lent, size, count_of, is_free, free_order, walk_records}
 use Rattle.meaning.specs.Trees.{HasShape}
@@ -55,11 +55,11 @@ pub record WellFormed (s : Lent) : Type 0 where
   -- each node's count equals the links to it
   pub counted : (n : ℕ) → n < size s → count_of s n ≡ links s n
   -- each unreached node is of kind free, and no other is. Each node is of one kind for all who reach it: the kind is the node's own, and every shape that has the node speaks of that one.
-  pub reached : (n : ℕ) → (kind_of s.nodes n ≢ FREE) ↔ Reached s.nodes (roots s) n
+  pub reached : (n : ℕ) → (kind_of s.nodes n ≢ free_kind) ↔ Reached s.nodes (roots s) n
   -- each of them is in the free order once, and no other number is
   pub once : (n : ℕ) → occurrences n (free_order s) ≡ bit (is_free s.nodes n)
   -- a leaf's or branch's cells from used upwards are 0
-  pub spare : (n i : ℕ) → kind_of s.nodes n ≢ FREE → used_of s.nodes n ≤ i → i < node_cells → cell_of s.nodes n i ≡ 0
+  pub spare : (n i : ℕ) → kind_of s.nodes n ≢ free_kind → used_of s.nodes n ≤ i → i < node_cells → cell_of s.nodes n i ≡ 0
   -- used and count of a free node are 0; its cells may hold anything
-  pub free_used : (n : ℕ) → n < size s → kind_of s.nodes n ≡ FREE → used_of s.nodes n ≡ 0
-  pub free_count : (n : ℕ) → n < size s → kind_of s.nodes n ≡ FREE → count_of s n ≡ 0
+  pub free_used : (n : ℕ) → n < size s → kind_of s.nodes n ≡ free_kind → used_of s.nodes n ≡ 0
+  pub free_count : (n : ℕ) → n < size s → kind_of s.nodes n ≡ free_kind → count_of s n ≡ 0

@@ -6,7 +6,7 @@ use Prim.Native.Nat.{ℕ, ◌+◌, ◌-◌, ◌≤◌, max}
 use native.Mathlib.Omega.{arith}
 use lib.ListN.{length, take, set, replicate}
 use lib.Seq.{slice}
-use Rattle.meaning.specs.Limits.{node_cells, LEAF, BRANCH}
+use Rattle.meaning.specs.Limits.{node_cells, leaf_kind, branch_kind}
 use Rattle.meaning.specs.Lent.{Nodes, used_of}
 use Rattle.cells.specs.Cells.{cells_of}
 use Rattle.store.specs.Store.{Store, node_count, raises, top}
@@ -61,25 +61,25 @@ share-range s c b j k z h l = let o = share-first s c b k z h l in (o.0, (o.1, r
 
 -- ---- what is made
 
-pub empty-made : (s s' : Store) (m : ℕ) → Makes s LEAF 0 (replicate node_cells 0) s' m → made_of s' m ≡ empty_leaf s
+pub empty-made : (s s' : Store) (m : ℕ) → Makes s leaf_kind 0 (replicate node_cells 0) s' m → made_of s' m ≡ empty_leaf s
 unfolding empty_leaf
 empty-made s s' m w = rw (w.made, w.taken)
 
-pub leaf-made : (s s' : Store) (a : List ℕ) (used len b v m : ℕ) → len ≡ max used (b + 1) → Makes s LEAF len (set a b v) s' m
+pub leaf-made : (s s' : Store) (a : List ℕ) (used len b v m : ℕ) → len ≡ max used (b + 1) → Makes s leaf_kind len (set a b v) s' m
     → made_of s' m ≡ leaf_with s (source_of a used) b v
 unfolding leaf_with
 leaf-made s s' a used len b v m e w = rw (w.made, w.taken, e)
 
 pub branch-made : (s s' : Store) (cs a : List ℕ) (used len b n m : ℕ) → cs ≡ raises s.counts (others a used b) → len ≡ max used (b + 1)
-    → Makes (recounted s cs) BRANCH len (set a b n) s' m → made_of s' m ≡ branch_with (source_of a used) b (made_of s n)
+    → Makes (recounted s cs) branch_kind len (set a b n) s' m → made_of s' m ≡ branch_with (source_of a used) b (made_of s n)
 unfolding branch_with top
 branch-made s s' cs a used len b n m r e w = rw (w.made, w.taken, e, r)
 
-pub leaf-cut : (s s' : Store) (a : List ℕ) (used b m : ℕ) → Makes s LEAF b (set a b 0) s' m → made_of s' m ≡ leaf_cut s (source_of a used) b
+pub leaf-cut : (s s' : Store) (a : List ℕ) (used b m : ℕ) → Makes s leaf_kind b (set a b 0) s' m → made_of s' m ≡ leaf_cut s (source_of a used) b
 unfolding leaf_cut
 leaf-cut s s' a used b m w = rw (w.made, w.taken)
 
 pub branch-cut : (s s' : Store) (cs a : List ℕ) (used b m : ℕ) → cs ≡ raises s.counts (slice 0 b a)
-    → Makes (recounted s cs) BRANCH b (set a b 0) s' m → made_of s' m ≡ branch_cut s (source_of a used) b
+    → Makes (recounted s cs) branch_kind b (set a b 0) s' m → made_of s' m ≡ branch_cut s (source_of a used) b
 unfolding branch_cut top
 branch-cut s s' cs a used b m r w = rw (w.made, w.taken, r)

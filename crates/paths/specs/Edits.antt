@@ -1,6 +1,6 @@
 -- What each call makes of the store and which version record it answers.
 use Rattle.std.specs.Prelude.{true, cond, [], ◌∷◌, ℕ, ◌+◌, ◌-◌, eqb, get_or, replicate}
-use Rattle.meaning.specs.Limits.{node_cells, LEAF}
+use Rattle.meaning.specs.Limits.{node_cells, leaf_kind}
 use Rattle.meaning.specs.Lent.{VersionRecord}
 use Rattle.meaning.specs.Shape.{is_root_full}
 use Rattle.meaning.specs.Trees.{height_of}
@@ -22,7 +22,7 @@ edit m bits n = record { store = m.store; version = live_record m.node bits n }
 
 -- an empty leaf
 unfoldable pub empty_leaf : Store → Made
-empty_leaf s = record { store = make s LEAF 0 (replicate node_cells 0); node = top s }
+empty_leaf s = record { store = make s leaf_kind 0 (replicate node_cells 0); node = top s }
 
 unfoldable pub new_edit : Store → (bits : ℕ) → Edit
 new_edit s bits = edit (empty_leaf s) bits 0

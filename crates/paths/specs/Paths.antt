@@ -1,7 +1,7 @@
 -- Path copying: the nodes from a root to one leaf made anew, bottom up, and everything beside them shared.
 use Rattle.std.specs.Prelude.{Bool, true, false, cond, List, ◌∷◌, ℕ, zero, suc, ◌+◌, ◌-◌, ◌^◌, max, ltb, get_or, set, replicate}
 use Rattle.std.proofs.Math.Seq.{slice}
-use Rattle.meaning.specs.Limits.{node_cells, LEAF, BRANCH}
+use Rattle.meaning.specs.Limits.{node_cells, leaf_kind, branch_kind}
 use Rattle.meaning.specs.Counting.{divides}
 use Rattle.meaning.specs.Lent.{Nodes, used_of}
 use Rattle.meaning.specs.Shape.{degree, bucket}
@@ -26,13 +26,13 @@ source s there n = cond there (record { cells = cells_of s.cells n; used = used_
 
 -- a leaf with value v in cell b, which is one of its own or the next
 unfoldable pub leaf_with : Store → Source → (b v : ℕ) → Made
-leaf_with s c b v = record { store = make s LEAF (max c.used (b + 1)) (set c.cells b v); node = top s }
+leaf_with s c b v = record { store = make s leaf_kind (max c.used (b + 1)) (set c.cells b v); node = top s }
 
 -- a branch with the node made last in cell b, sharing its other children
 unfoldable pub branch_with : Source → (b : ℕ) → Made → Made
 branch_with c b r =
     record {
-      store = make (raised r.store (others c.cells c.used b)) BRANCH (max c.used (b + 1)) (set c.cells b r.node);
+      store = make (raised r.store (others c.cells c.used b)) branch_kind (max c.used (b + 1)) (set c.cells b r.node);
       node = top r.store;
     }
 
@@ -55,11 +55,11 @@ grow s bits h root index v =
 
 -- a leaf of the first b values
 unfoldable pub leaf_cut : Store → Source → (b : ℕ) → Made
-leaf_cut s c b = record { store = make s LEAF b (set c.cells b 0); node = top s }
+leaf_cut s c b = record { store = make s leaf_kind b (set c.cells b 0); node = top s }
 
 -- a branch over the first b children, which are shared
 unfoldable pub branch_cut : Store → Source → (b : ℕ) → Made
-branch_cut s c b = record { store = make (raised s (slice 0 b c.cells)) BRANCH b (set c.cells b 0); node = top s }
+branch_cut s c b = record { store = make (raised s (slice 0 b c.cells)) branch_kind b (set c.cells b 0); node = top s }
 
 -- the way to the last index below node n of height h, copied without it; a child that would be empty is left out
 unfoldable pub drop_last : Store → (bits h n last : ℕ) → Made

@@ -1,6 +1,6 @@
 -- Frames of one kind in a row: gets of elements that are there, from one slot, and steps of one walk from one end.
 use Rattle.std.specs.Prelude.{◌≡◌, Bool, true, false, ◌&&◌, List, ℕ, zero, suc, ◌+◌, ◌-◌, ◌*◌, ◌≤◌, ◌<◌, ltb, eqb, length, get_or}
-use Rattle.meaning.specs.Limits.{node_cells, GET}
+use Rattle.meaning.specs.Limits.{node_cells, get_code}
 use Rattle.meaning.specs.Lent.{WalkSlices}
 use Rattle.meaning.specs.Trees.{height_of}
 use Rattle.meaning.specs.Frames.{Frame, encode}
@@ -34,7 +34,7 @@ Stops kind requests count end = end < count → kind (frame_in requests end) ≡
 
 -- of a party's slot, at an index below a length
 abbrev pub is_get : (party slot length : ℕ) → Frame → Bool
-is_get p n l f = eqb f.party p && eqb f.operation GET && eqb f.slot n && ltb f.index l
+is_get p n l f = eqb f.party p && eqb f.operation get_code && eqb f.slot n && ltb f.index l
 
 -- the room after so many gets from the kth frame on
 unfoldable pub after_gets : (cells : List ℕ) → Version → (requests room : List ℕ) → (k count : ℕ) → List ℕ

@@ -4,7 +4,7 @@
 mod leaf;
 
 ghost use Rattle.std.specs.Prelude.{◌≡◌, Bool, ◌+◌, ◌*◌, ◌/◌, ◌^◌, ◌<◌, eqb};
-ghost use Rattle.meaning.specs.Limits.{word_width, NEXT-BACK};
+ghost use Rattle.meaning.specs.Limits.{word_width, next_back_code};
 ghost use Rattle.meaning.specs.WellFormed.{LegalBits};
 ghost use Rattle.shape.specs.Legal.{Legal};
 ghost use Rattle.lookup.specs.Lookup.{leaf_in};
@@ -127,7 +127,7 @@ pub fn steps(
 ) -> usize
     requires walk { Walkable numbers.old n }
     requires room { Roomy requests.now room.old k count }
-    ensures steps { Steps cells.now used.now party operation walk (eqb operation NEXT-BACK) n
+    ensures steps { Steps cells.now used.now party operation walk (eqb operation next_back_code) n
         (walked (slices numbers.old nodes.old indices.old) room.old)
         (walked (slices numbers.new nodes.new indices.new) room.new)
         requests.now k count result }

@@ -8,7 +8,7 @@ use native.Mathlib.Omega.{arith}
 use lib.Dec.{ltb, eqb}
 use lib.ListN.{length, get_or}
 use borrow.Author.Tests.{eqb-true, ltb-true}
-use Rattle.meaning.specs.Limits.{parties, party_slots, party_walks, GET, NEXT, NEXT-BACK}
+use Rattle.meaning.specs.Limits.{parties, party_slots, party_walks, get_code, next_code, next_back_code}
 use Rattle.meaning.specs.Lent.{VersionRecord, empty_record, WalkSlices, walk_record}
 use Rattle.meaning.specs.Frames.{Frame}
 use Rattle.meaning.specs.Operations.{unknown, operations, op_of, anyone, uses, owner_or, giver}
@@ -37,12 +37,12 @@ open_told numbers p n e = pick (ltb p parties && ltb n party_walks) refl e
     pick true h q = let x = both_below p n parties party_walks h in (x.0, x.1, eqb-true _ _ q)
     pick false h q = absurd (false≢true q)
 
-giver-gets : (f : Frame) → f.operation ≡ GET → giver f ≡ f.party
+giver-gets : (f : Frame) → f.operation ≡ get_code → giver f ≡ f.party
 unfolding giver op_of operations uses anyone owner_or
 giver-gets f e = ap (λ (n : ℕ). owner_or (uses (get_or operations n unknown)).index f.index f.party) e
 
 -- what stands at the place of a get's source is the version in its slot
-source_is : (r : Run) (f : Frame) (v : VersionRecord) → f.operation ≡ GET → f.party < parties → f.slot < party_slots → v ≡ get_or r.versions (place_of (giver f) f.slot) empty_record
+source_is : (r : Run) (f : Frame) (v : VersionRecord) → f.operation ≡ get_code → f.party < parties → f.slot < party_slots → v ≡ get_or r.versions (place_of (giver f) f.slot) empty_record
     → version_in r f.party f.slot ≡ v
 source_is r f v o lp ln e =
     let place : place_of (giver f) f.slot ≡ slot_place f.party f.slot = ap (λ (p : ℕ). place_of p f.slot) (giver-gets f o) ∙ place_here f.party f.slot lp ln in
@@ -69,7 +69,7 @@ module _ (r : Run) (k : Runs r) where
     walkable = λ o opened. walk-runs f.party f.slot opened;
   }
     where
-      legal : f.operation ≡ GET → ltb f.party parties && ltb f.slot party_slots ≡ true → v.live ≡ 1 → Legal v.bits v.length
+      legal : f.operation ≡ get_code → ltb f.party parties && ltb f.slot party_slots ≡ true → v.live ≡ 1 → Legal v.bits v.length
       legal o there live =
           let (lp, ln) = both_below f.party f.slot parties party_slots there in
           let same : version_in r f.party f.slot ≡ v = source_is r f v o lp ln e in
@@ -87,11 +87,11 @@ module _ (ws : WalkSlices) (f : Frame) (v : Version) (requests room : List ℕ) 
 
   -- ---- gets
 
-  module _ (there : Bool) (et : there ≡ ltb f.party parties && ltb f.slot party_slots) (t : eqb f.operation GET && there && eqb v.live 1 ≡ true) where
-    gets-told : (f.operation ≡ GET) × (ltb f.party parties && ltb f.slot party_slots ≡ true) × (v.live ≡ 1)
+  module _ (there : Bool) (et : there ≡ ltb f.party parties && ltb f.slot party_slots) (t : eqb f.operation get_code && there && eqb v.live 1 ≡ true) where
+    gets-told : (f.operation ≡ get_code) × (ltb f.party parties && ltb f.slot party_slots ≡ true) × (v.live ≡ 1)
     gets-told =
-        let x = both_true (eqb f.operation GET && there) (eqb v.live 1) t in
-        let y = both_true (eqb f.operation GET) there x.0 in
+        let x = both_true (eqb f.operation get_code && there) (eqb v.live 1) t in
+        let y = both_true (eqb f.operation get_code) there x.0 in
         (eqb-true _ _ y.0, sym et ∙ y.1, eqb-true _ _ x.1)
 
     pub gets-asked : Legal v.bits v.length
@@ -112,25 +112,25 @@ module _ (ws : WalkSlices) (f : Frame) (v : Version) (requests room : List ℕ) 
 
   -- ---- steps
 
-  module _ (opened : Bool) (eo : opened ≡ is_open_at ws.numbers f.party f.slot) (t : (eqb f.operation NEXT || eqb f.operation NEXT-BACK) && opened ≡ true) where
-    steps-told : ((f.operation ≡ NEXT) ⊎ (f.operation ≡ NEXT-BACK)) × (is_open_at ws.numbers f.party f.slot ≡ true)
+  module _ (opened : Bool) (eo : opened ≡ is_open_at ws.numbers f.party f.slot) (t : (eqb f.operation next_code || eqb f.operation next_back_code) && opened ≡ true) where
+    steps-told : ((f.operation ≡ next_code) ⊎ (f.operation ≡ next_back_code)) × (is_open_at ws.numbers f.party f.slot ≡ true)
     steps-told =
-        let x = both_true (eqb f.operation NEXT || eqb f.operation NEXT-BACK) opened t in
-        (which (either (eqb f.operation NEXT) (eqb f.operation NEXT-BACK) x.0), sym eo ∙ x.1)
+        let x = both_true (eqb f.operation next_code || eqb f.operation next_back_code) opened t in
+        (which (either (eqb f.operation next_code) (eqb f.operation next_back_code) x.0), sym eo ∙ x.1)
       where
-        which : (eqb f.operation NEXT ≡ true) ⊎ (eqb f.operation NEXT-BACK ≡ true) → (f.operation ≡ NEXT) ⊎ (f.operation ≡ NEXT-BACK)
+        which : (eqb f.operation next_code ≡ true) ⊎ (eqb f.operation next_back_code ≡ true) → (f.operation ≡ next_code) ⊎ (f.operation ≡ next_back_code)
         which (inl e) = inl (eqb-true _ _ e)
         which (inr e) = inr (eqb-true _ _ e)
 
     pub steps-asked : (n : ℕ) → n ≡ walk_place f.party f.slot → Walkable ws.numbers n
     steps-asked n e = rw e (asked.walkable steps-told.0 steps-told.1)
 
-    way : (f.operation ≡ NEXT) ⊎ (f.operation ≡ NEXT-BACK) → Way f.operation (eqb f.operation NEXT-BACK)
-    way (inl e) = inl (e, ap (λ (n : ℕ). eqb n NEXT-BACK) e)
-    way (inr e) = inr (e, ap (λ (n : ℕ). eqb n NEXT-BACK) e)
+    way : (f.operation ≡ next_code) ⊎ (f.operation ≡ next_back_code) → Way f.operation (eqb f.operation next_back_code)
+    way (inl e) = inl (e, ap (λ (n : ℕ). eqb n next_back_code) e)
+    way (inr e) = inr (e, ap (λ (n : ℕ). eqb n next_back_code) e)
 
     pub repeats-steps : (cells used : List ℕ) (n : ℕ) (ws_after : WalkSlices) (room_after : List ℕ) (end : ℕ) → n ≡ walk_place f.party f.slot
-        → Steps cells used f.party f.operation f.slot (eqb f.operation NEXT-BACK) n (walked ws room) (walked ws_after room_after) requests k count end
+        → Steps cells used f.party f.operation f.slot (eqb f.operation next_back_code) n (walked ws room) (walked ws_after room_after) requests k count end
         → Repeats cells used ws ws_after f (record_of v) requests room room_after k count end
     repeats-steps cells used n ws_after room_after end e g = record { from = g.row.from; to = g.row.to; serves = λ s vs ec eu ev. serves s vs ec eu }
       where
@@ -139,8 +139,8 @@ module _ (ws : WalkSlices) (f : Frame) (v : Version) (requests room : List ℕ) 
         serves s vs ec eu =
             let (lp, ln, opened) = open_told ws.numbers f.party f.slot steps-told.1 in
             let far : k + (end - k) ≡ end = omega (arith, g.row.from) in
-            let ran = steps-run requests s vs f.party f.operation f.slot (eqb f.operation NEXT-BACK) lp ln (way steps-told.0) k (walked ws room) opened (end - k) (λ i a b. g.row.all i a (omega arith)) in
-            let stepped : walked ws_after room_after ≡ after_steps s.nodes.cells s.nodes.used (eqb f.operation NEXT-BACK) (walk_place f.party f.slot) (walked ws room) k (end - k) =
+            let ran = steps-run requests s vs f.party f.operation f.slot (eqb f.operation next_back_code) lp ln (way steps-told.0) k (walked ws room) opened (end - k) (λ i a b. g.row.all i a (omega arith)) in
+            let stepped : walked ws_after room_after ≡ after_steps s.nodes.cells s.nodes.used (eqb f.operation next_back_code) (walk_place f.party f.slot) (walked ws room) k (end - k) =
             rw (ec, eu, ← e) g.steps in
             ap (λ (w : Walked). progress (run_of s vs w.walks) w.room) stepped ∙ sym ran
 

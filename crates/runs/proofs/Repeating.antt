@@ -10,7 +10,7 @@ use lib.Dec.{ltb, leb, eqb}
 use lib.ListN.{length, get_or, set}
 use lib.Seq.{get_or-set_other}
 use borrow.Author.Tests.{lt-ltb, le-ltb, eq-eqb, eqb-true, ltb-true}
-use Rattle.meaning.specs.Limits.{last_party, last_slot, last_walk, parties, party_slots, party_walks, walk_numbers, GET, NEXT, NEXT-BACK, DONE}
+use Rattle.meaning.specs.Limits.{last_party, last_slot, last_walk, parties, party_slots, party_walks, walk_numbers, get_code, next_code, next_back_code, done_number}
 use Rattle.meaning.specs.Counting.{bit}
 use Rattle.meaning.specs.Lent.{VersionRecord, empty_record, WalkSlices, WalkRecord, walk_record}
 use Rattle.meaning.specs.Trees.{height_of}
@@ -46,9 +46,9 @@ use Rattle.runs.proofs.Stepping.{step-runs}
 
 module _ (r : Run) (p n d i x : ℕ) where
   abbrev get_frame : Frame
-  get_frame = record { party = p; operation = GET; slot = n; destination = d; index = i; value = x }
+  get_frame = record { party = p; operation = get_code; slot = n; destination = d; index = i; value = x }
 
-  get-enters : p < parties → n < party_slots → (version_in r p n).live ≡ 1 → first_of (entry_checks get get_frame (seen_in r get_frame).standing) ≡ DONE
+  get-enters : p < parties → n < party_slots → (version_in r p n).live ≡ 1 → first_of (entry_checks get get_frame (seen_in r get_frame).standing) ≡ done_number
   unfolding entry_checks ◌if◌ first_of uses anyone any_field faults no_fault seen_in giver owner_or op_of operations
   get-enters lp ln live = rw (le-ltb last_party p (omega arith), le-ltb last_slot n (omega arith), eq-eqb _ 1 live)
 
@@ -73,29 +73,29 @@ module _ (r : Run) (p n d i x : ℕ) where
       serve r (step_frame o) ≡ (run_of r.store r.versions t.slices, answer_of t.answer)
 
   module _ (lp : p < parties) (ln : n < party_walks) (alive : (walk_in r p n).version.live ≡ 1) where
-    next-enters : first_of (entry_checks next (step_frame NEXT) (seen_in r (step_frame NEXT)).standing) ≡ DONE
+    next-enters : first_of (entry_checks next (step_frame next_code) (seen_in r (step_frame next_code)).standing) ≡ done_number
     unfolding entry_checks ◌if◌ first_of uses anyone any_field faults no_fault seen_in giver owner_or op_of operations
     next-enters = rw (le-ltb last_party p (omega arith), le-ltb last_walk n (omega arith), eq-eqb _ 1 alive)
 
-    next-back-enters : first_of (entry_checks next_back (step_frame NEXT-BACK) (seen_in r (step_frame NEXT-BACK)).standing) ≡ DONE
+    next-back-enters : first_of (entry_checks next_back (step_frame next_back_code) (seen_in r (step_frame next_back_code)).standing) ≡ done_number
     unfolding entry_checks ◌if◌ first_of uses anyone any_field faults no_fault seen_in giver owner_or op_of operations
     next-back-enters = rw (le-ltb last_party p (omega arith), le-ltb last_walk n (omega arith), eq-eqb _ 1 alive)
 
-    pub next-serves : Served NEXT false
+    pub next-serves : Served next_code false
     unfolding serve verdict op_of operations giver owner_or uses anyone
     next-serves =
-        rw (entry-passes next (supply_in r) (step_frame NEXT) (seen_in r (step_frame NEXT)) next-enters)
-        (next-turns r (step_frame NEXT) (walk-place-here p n lp ln) (walk_here r p n lp ln) ∙ rw (walk-place-here p n lp ln, stays r (step_frame NEXT)))
+        rw (entry-passes next (supply_in r) (step_frame next_code) (seen_in r (step_frame next_code)) next-enters)
+        (next-turns r (step_frame next_code) (walk-place-here p n lp ln) (walk_here r p n lp ln) ∙ rw (walk-place-here p n lp ln, stays r (step_frame next_code)))
 
-    pub next-back-serves : Served NEXT-BACK true
+    pub next-back-serves : Served next_back_code true
     unfolding serve verdict op_of operations giver owner_or uses anyone
     next-back-serves =
-        rw (entry-passes next_back (supply_in r) (step_frame NEXT-BACK) (seen_in r (step_frame NEXT-BACK)) next-back-enters)
-        (next-back-turns r (step_frame NEXT-BACK) (walk-place-here p n lp ln) (walk_here r p n lp ln) ∙ rw (walk-place-here p n lp ln, stays r (step_frame NEXT-BACK)))
+        rw (entry-passes next_back (supply_in r) (step_frame next_back_code) (seen_in r (step_frame next_back_code)) next-back-enters)
+        (next-back-turns r (step_frame next_back_code) (walk-place-here p n lp ln) (walk_here r p n lp ln) ∙ rw (walk-place-here p n lp ln, stays r (step_frame next_back_code)))
 
 -- from either end
 abbrev pub Way : (operation : ℕ) (back : Bool) → Type 0
-Way o back = ((o ≡ NEXT) × (back ≡ false)) ⊎ ((o ≡ NEXT-BACK) × (back ≡ true))
+Way o back = ((o ≡ next_code) × (back ≡ false)) ⊎ ((o ≡ next_back_code) × (back ≡ true))
 
 step-serves : (r : Run) (p n d i x : ℕ) → p < parties → n < party_walks → (walk_in r p n).version.live ≡ 1 → (o : ℕ) (back : Bool) → Way o back → Served r p n d i x o back
 step-serves r p n d i x lp ln alive o back (inl (e, h)) = rw (e, h) (next-serves r p n d i x lp ln alive)
@@ -126,11 +126,11 @@ pub either : (a b : Bool) → a || b ≡ true → (a ≡ true) ⊎ (b ≡ true)
 either true b e = inl refl
 either false b e = inr e
 
-get-told : (p n l : ℕ) (f : Frame) → is_get p n l f ≡ true → (f.party ≡ p) × (f.operation ≡ GET) × (f.slot ≡ n) × (f.index < l)
+get-told : (p n l : ℕ) (f : Frame) → is_get p n l f ≡ true → (f.party ≡ p) × (f.operation ≡ get_code) × (f.slot ≡ n) × (f.index < l)
 get-told p n l f t =
-    let x = both_true (eqb f.party p && eqb f.operation GET && eqb f.slot n) (ltb f.index l) t in
-    let y = both_true (eqb f.party p && eqb f.operation GET) (eqb f.slot n) x.0 in
-    let z = both_true (eqb f.party p) (eqb f.operation GET) y.0 in
+    let x = both_true (eqb f.party p && eqb f.operation get_code && eqb f.slot n) (ltb f.index l) t in
+    let y = both_true (eqb f.party p && eqb f.operation get_code) (eqb f.slot n) x.0 in
+    let z = both_true (eqb f.party p) (eqb f.operation get_code) y.0 in
     (eqb-true _ _ z.0, eqb-true _ _ z.1, eqb-true _ _ y.1, ltb-true _ _ x.1)
 
 step-told : (p o n : ℕ) (f : Frame) → is_step p o n f ≡ true → (f.party ≡ p) × (f.operation ≡ o) × (f.slot ≡ n)
@@ -184,7 +184,7 @@ module _ (requests : List ℕ) where
         let within : f.index < (version_in r p n).length = rw here told.3 in
         let alive : (version_in r p n).live ≡ 1 = ap (λ (w : VersionRecord). w.live) here ∙ live in
         let found : serve r f ≡ (r, valued (item f.index)) =
-        ap (serve r) (framed f p GET n told.0 told.1 told.2)
+        ap (serve r) (framed f p get_code n told.0 told.1 told.2)
         ∙ (get-serves r p n f.destination f.index f.value lp ln alive within
         ∙ ap (λ (w : VersionRecord). (r, valued (element_in r.store.nodes.cells w.bits (height_of w) w.root f.index))) here) in
         ap (λ (y : Run × Answer). progress y.0 (put room (answer_place k) (encode y.1))) found

@@ -8,7 +8,7 @@ use native.Mathlib.Omega.{arith}
 use lib.Dec.{ltb, eqb}
 use lib.ListN.{length, get_or, set, get_or-map}
 use borrow.Author.Tests.{lt-ltb, le-ltb}
-use Rattle.meaning.specs.Limits.{parties, party_slots, version_count, RELEASE}
+use Rattle.meaning.specs.Limits.{parties, party_slots, version_count, release_code}
 use Rattle.meaning.specs.Lent.{VersionRecord, empty_record, WalkSlices}
 use Rattle.meaning.specs.Frames.{Frame, Answer, encode}
 use Rattle.meaning.specs.Operations.{giver, taker}
@@ -64,7 +64,7 @@ placed f g t source target changed eg et es ed ec ls lt =
       changed_is = ec ∙ (ap (λ (n : ℕ). changed_in f n target) source_is ∙ ap (λ (n : ℕ). changed_in f (place_of (giver f) f.slot) n) target_is);
       source_below = ls;
       target_below = lt;
-      changed_below = rw ec (either-below (eqb f.operation RELEASE) source target version_count ls lt);
+      changed_below = rw ec (either-below (eqb f.operation release_code) source target version_count ls lt);
     }
 
 -- what is read at the place of a slot is the model's

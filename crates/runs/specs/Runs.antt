@@ -1,6 +1,6 @@
 -- Frames in order: what each makes of the state, and its answer at its 6 bytes.
 use Rattle.std.specs.Prelude.{◌≡◌, true, cond, ◌&&◌, ◌⊎◌, List, ℕ, zero, suc, ◌+◌, ◌-◌, ◌*◌, ◌≤◌, ◌<◌, ltb, length, get_or}
-use Rattle.meaning.specs.Limits.{parties, party_slots, version_count, GET, NEXT, NEXT-BACK}
+use Rattle.meaning.specs.Limits.{parties, party_slots, version_count, get_code, next_code, next_back_code}
 use Rattle.meaning.specs.Lent.{VersionRecord, empty_record, WalkSlices}
 use Rattle.meaning.specs.Frames.{Frame, encode}
 use Rattle.meaning.specs.Operations.{giver, taker}
@@ -64,8 +64,8 @@ pub record CanRun (r : Run) (requests room : List ℕ) (count : ℕ) : Type 0 wh
 -- what answering them asks of the walks, of the version in that frame's slot and of the room
 pub record Repeatable (ws : WalkSlices) (f : Frame) (v : VersionRecord) (requests room : List ℕ) (k count : ℕ) : Type 0 where
   pub roomy : Roomy requests room k count
-  pub legal : f.operation ≡ GET → ltb f.party parties && ltb f.slot party_slots ≡ true → v.live ≡ 1 → Legal v.bits v.length
-  pub walkable : (f.operation ≡ NEXT) ⊎ (f.operation ≡ NEXT-BACK) → is_open_at ws.numbers f.party f.slot ≡ true → Walkable ws.numbers (walk_place f.party f.slot)
+  pub legal : f.operation ≡ get_code → ltb f.party parties && ltb f.slot party_slots ≡ true → v.live ≡ 1 → Legal v.bits v.length
+  pub walkable : (f.operation ≡ next_code) ⊎ (f.operation ≡ next_back_code) → is_open_at ws.numbers f.party f.slot ≡ true → Walkable ws.numbers (walk_place f.party f.slot)
 
 -- any state that has these cells, used numbers and walks, and the version in that frame's slot, goes on so from the kth frame up to the endth
 pub record Repeats (cells used : List ℕ) (ws ws_after : WalkSlices) (f : Frame) (v : VersionRecord) (requests room room_after : List ℕ) (k count end : ℕ) : Type 0 where

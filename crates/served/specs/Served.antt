@@ -1,6 +1,6 @@
 -- The answer of a frame for each answer of a call: the number of document 01, fresh and value, beside the free nodes and the version record.
 use Rattle.std.specs.Prelude.{ℕ, ◌%◌}
-use Rattle.meaning.specs.Limits.{DONE, BAD-BITS, NOTHING-THERE, FULL, NO-NODES}
+use Rattle.meaning.specs.Limits.{done_number, bad_bits_number, nothing_there_number, full_number, no_nodes_number}
 use Rattle.meaning.specs.Effects.{signed}
 use Rattle.records.specs.declared.Version.{Version}
 use Rattle.lookup.specs.declared.Got.{Got}
@@ -20,22 +20,22 @@ abbrev pub refused_with : (number free : ℕ) → (old : Version) → Served
 refused_with n f old = served_with n 0 0 f old
 
 abbrev pub answered_with : (value free : ℕ) → Version → Served
-answered_with x f v = served_with DONE 0 x f v
+answered_with x f v = served_with done_number 0 x f v
 
 -- the fall in free nodes is what was copied
 abbrev pub served_done : Edit → Served
-served_done e = served_with DONE (e.copied % 256) 0 e.free e.version
+served_done e = served_with done_number (e.copied % 256) 0 e.free e.version
 
 abbrev pub edited_with : Edited → (free : ℕ) → (old : Version) → Served
 edited_with (Done e) f old = served_done e
-edited_with BadBits f old = refused_with BAD-BITS f old
-edited_with NothingThere f old = refused_with NOTHING-THERE f old
-edited_with Full f old = refused_with FULL f old
-edited_with NoNodes f old = refused_with NO-NODES f old
+edited_with BadBits f old = refused_with bad_bits_number f old
+edited_with NothingThere f old = refused_with nothing_there_number f old
+edited_with Full f old = refused_with full_number f old
+edited_with NoNodes f old = refused_with no_nodes_number f old
 
 abbrev pub got_with : Got → (free : ℕ) → (old : Version) → Served
 got_with (Element x) f old = answered_with x f old
-got_with Nothing f old = refused_with NOTHING-THERE f old
+got_with Nothing f old = refused_with nothing_there_number f old
 
 abbrev pub ordered_with : Ordering → (free : ℕ) → (old : Version) → Served
 ordered_with o f old = answered_with (signed (sign_of o)) f old

@@ -8,7 +8,7 @@ use native.Mathlib.Decide.{ℕ_discrete}
 use native.Mathlib.Omega.{arith}
 use lib.ListN.{length, take, drop}
 use borrow.Author.Tests.{not-true, eqb-false, ne_eqb}
-use Rattle.meaning.specs.Limits.{frame_size, FREE}
+use Rattle.meaning.specs.Limits.{frame_size, free_kind}
 use Rattle.meaning.specs.Lent.{kind_of, Lent, free_nodes}
 use Rattle.meaning.specs.Links.{roots, Reached}
 use Rattle.meaning.specs.WellFormed.{WellFormed}
@@ -49,17 +49,17 @@ run-again r k =
 
 -- ---- free nodes
 
-in_use_lem : (s : Lent) (n : ℕ) → (in_use s n ≡ true) ↔ (kind_of s.nodes n ≢ FREE)
-in_use_lem s n = (λ e. eqb-false _ FREE (not-true _ e), λ f. ap not (ne_eqb _ FREE f))
+in_use_lem : (s : Lent) (n : ℕ) → (in_use s n ≡ true) ↔ (kind_of s.nodes n ≢ free_kind)
+in_use_lem s n = (λ e. eqb-false _ free_kind (not-true _ e), λ f. ap not (ne_eqb _ free_kind f))
 
 free-rests : (s : Lent) → WellFormed s → FreeAreRest s
 free-rests s w = record {
-  unreached = λ n. (λ e h. (w.reached n).1 h e, λ h. pick n h (ℕ_discrete (kind_of s.nodes n) FREE));
+  unreached = λ n. (λ e h. (w.reached n).1 h e, λ h. pick n h (ℕ_discrete (kind_of s.nodes n) free_kind));
   reached = told;
   rest = free-rest (well-formed-runs s w).kept (in_use s) told;
 }
   where
-    pick : (n : ℕ) → (Reached s.nodes (roots s) n → ⊥) → Dec (kind_of s.nodes n ≡ FREE) → kind_of s.nodes n ≡ FREE
+    pick : (n : ℕ) → (Reached s.nodes (roots s) n → ⊥) → Dec (kind_of s.nodes n ≡ free_kind) → kind_of s.nodes n ≡ free_kind
     pick n h (yes e) = e
     pick n h (no f) = absurd (h ((w.reached n).0 f))
 

@@ -7,7 +7,7 @@ use Prim.Native.Nat.{ℕ, ◌<◌}
 use native.Mathlib.Decide.{ℕ_discrete}
 use native.Mathlib.Omega.{arith}
 use borrow.Author.Tests.{ltb-false}
-use Rattle.meaning.specs.Limits.{DONE, parties, last_party}
+use Rattle.meaning.specs.Limits.{done_number, parties, last_party}
 use Rattle.meaning.specs.Counting.{Each}
 use Rattle.meaning.specs.Frames.{Frame}
 use Rattle.meaning.specs.Operations.{Op, Role, unused, source, filled, walked, opened, owner, bits, position, element, Uses, uses, op_of, owner_or, giver, taker}
@@ -16,35 +16,35 @@ use Rattle.meaning.specs.Checks.{Standing, Seen, Faults, no_fault, faults, any_f
 use Rattle.meaning.proofs.Booleans.{both_false}
 use Rattle.serving.specs.Passed.{Entered, later_checks, Passed}
 
-none-applies : (cs : List Check) → Each (λ (c : Check). c.number ≢ DONE) cs → first_of cs ≡ DONE → Each (λ (c : Check). c.applies ≡ false) cs
+none-applies : (cs : List Check) → Each (λ (c : Check). c.number ≢ done_number) cs → first_of cs ≡ done_number → Each (λ (c : Check). c.applies ≡ false) cs
 unfolding first_of
 none-applies [] h e = tt
 none-applies (c ∷ cs) h e = pick c.applies refl e (none-applies cs h.1)
   where
-    pick : (b : Bool) → c.applies ≡ b → cond b c.number (first_of cs) ≡ DONE
-        → (first_of cs ≡ DONE → Each (λ (x : Check). x.applies ≡ false) cs) → (c.applies ≡ false) × Each (λ (x : Check). x.applies ≡ false) cs
+    pick : (b : Bool) → c.applies ≡ b → cond b c.number (first_of cs) ≡ done_number
+        → (first_of cs ≡ done_number → Each (λ (x : Check). x.applies ≡ false) cs) → (c.applies ≡ false) × Each (λ (x : Check). x.applies ≡ false) cs
     pick true a k ih = absurd (h.0 k)
     pick false a k ih = (a, ih k)
 
-entry_named : (o : Op) (f : Frame) (x : Standing) → Each (λ (c : Check). c.number ≢ DONE) (entry_checks o f x)
+entry_named : (o : Op) (f : Frame) (x : Standing) → Each (λ (c : Check). c.number ≢ done_number) (entry_checks o f x)
 unfolding entry_checks ◌if◌
 entry_named o f x = omega arith
 
-later-named : (o : Op) (s : Supply) (f : Frame) (x : Seen) → Each (λ (c : Check). c.number ≢ DONE) (later_checks o s f x)
+later-named : (o : Op) (s : Supply) (f : Frame) (x : Seen) → Each (λ (c : Check). c.number ≢ done_number) (later_checks o s f x)
 unfolding later_checks find_checks nodes_check ◌if◌
 later-named o s f x = omega arith
 
-pub entered : (o : Op) (f : Frame) (x : Standing) → first_of (entry_checks o f x) ≡ DONE → Entered o f x
+pub entered : (o : Op) (f : Frame) (x : Standing) → first_of (entry_checks o f x) ≡ done_number → Entered o f x
 unfolding entry_checks ◌if◌
 entered o f x e =
     let (a, (b, (c, (d, (i, (j, _)))))) = none-applies (entry_checks o f x) (entry_named o f x) e in
     record { party = a; operation = b; allowed = c; range = d; source = i; target = j }
 
-pub enters : (o : Op) (f : Frame) (x : Standing) → Entered o f x → first_of (entry_checks o f x) ≡ DONE
+pub enters : (o : Op) (f : Frame) (x : Standing) → Entered o f x → first_of (entry_checks o f x) ≡ done_number
 unfolding entry_checks ◌if◌ first_of
 enters o f x p = rw (p.party, p.operation, p.allowed, p.range, p.source, p.target)
 
-later : (o : Op) (s : Supply) (f : Frame) (x : Seen) → Entered o f x.standing → first_of (later_checks o s f x) ≡ DONE → Passed o s f x
+later : (o : Op) (s : Supply) (f : Frame) (x : Seen) → Entered o f x.standing → first_of (later_checks o s f x) ≡ done_number → Passed o s f x
 unfolding later_checks find_checks nodes_check ◌if◌
 later o s f x p e =
     let (k, (l, (m, (n, _)))) = none-applies (later_checks o s f x) (later-named o s f x) e in
@@ -52,43 +52,43 @@ later o s f x p e =
 
 -- ---- the first six, then the other four
 
-first_then : (cs ds : List Check) → first_of cs ≡ DONE → Each (λ (c : Check). c.number ≢ DONE) cs → first_of (cs ++ ds) ≡ first_of ds
+first_then : (cs ds : List Check) → first_of cs ≡ done_number → Each (λ (c : Check). c.number ≢ done_number) cs → first_of (cs ++ ds) ≡ first_of ds
 unfolding first_of
 first_then [] ds e h = refl
 first_then (c ∷ cs) ds e h = pick c.applies e (λ k. first_then cs ds k h.1)
   where
-    pick : (b : Bool) → cond b c.number (first_of cs) ≡ DONE → (first_of cs ≡ DONE → first_of (cs ++ ds) ≡ first_of ds) → cond b c.number (first_of (cs ++ ds)) ≡ first_of ds
+    pick : (b : Bool) → cond b c.number (first_of cs) ≡ done_number → (first_of cs ≡ done_number → first_of (cs ++ ds) ≡ first_of ds) → cond b c.number (first_of (cs ++ ds)) ≡ first_of ds
     pick true k rest = absurd (h.0 k)
     pick false k rest = rest k
 
-first_alone : (cs ds : List Check) → first_of cs ≢ DONE → first_of (cs ++ ds) ≡ first_of cs
+first_alone : (cs ds : List Check) → first_of cs ≢ done_number → first_of (cs ++ ds) ≡ first_of cs
 unfolding first_of
 first_alone [] ds e = absurd (e refl)
 first_alone (c ∷ cs) ds e = pick c.applies e (λ k. first_alone cs ds k)
   where
-    pick : (b : Bool) → cond b c.number (first_of cs) ≢ DONE → (first_of cs ≢ DONE → first_of (cs ++ ds) ≡ first_of cs)
+    pick : (b : Bool) → cond b c.number (first_of cs) ≢ done_number → (first_of cs ≢ done_number → first_of (cs ++ ds) ≡ first_of cs)
         → cond b c.number (first_of (cs ++ ds)) ≡ cond b c.number (first_of cs)
     pick true k rest = refl
     pick false k rest = rest k
 
-pub entry-passes : (o : Op) (s : Supply) (f : Frame) (x : Seen) → first_of (entry_checks o f x.standing) ≡ DONE → first_of (checks o s f x) ≡ first_of (later_checks o s f x)
+pub entry-passes : (o : Op) (s : Supply) (f : Frame) (x : Seen) → first_of (entry_checks o f x.standing) ≡ done_number → first_of (checks o s f x) ≡ first_of (later_checks o s f x)
 unfolding checks earlier_checks entry_checks find_checks later_checks
 entry-passes o s f x e = first_then (entry_checks o f x.standing) (later_checks o s f x) e (entry_named o f x.standing)
 
-pub entry-refuses : (o : Op) (s : Supply) (f : Frame) (x : Seen) → first_of (entry_checks o f x.standing) ≢ DONE → first_of (checks o s f x) ≡ first_of (entry_checks o f x.standing)
+pub entry-refuses : (o : Op) (s : Supply) (f : Frame) (x : Seen) → first_of (entry_checks o f x.standing) ≢ done_number → first_of (checks o s f x) ≡ first_of (entry_checks o f x.standing)
 unfolding checks earlier_checks entry_checks find_checks later_checks
 entry-refuses o s f x e = first_alone (entry_checks o f x.standing) (later_checks o s f x) e
 
 -- ---- all ten
 
-pub passed : (o : Op) (s : Supply) (f : Frame) (x : Seen) → first_of (checks o s f x) ≡ DONE → Passed o s f x
-passed o s f x e = pick (ℕ_discrete (first_of (entry_checks o f x.standing)) DONE)
+pub passed : (o : Op) (s : Supply) (f : Frame) (x : Seen) → first_of (checks o s f x) ≡ done_number → Passed o s f x
+passed o s f x e = pick (ℕ_discrete (first_of (entry_checks o f x.standing)) done_number)
   where
-    pick : Dec (first_of (entry_checks o f x.standing) ≡ DONE) → Passed o s f x
+    pick : Dec (first_of (entry_checks o f x.standing) ≡ done_number) → Passed o s f x
     pick (yes p) = later o s f x (entered o f x.standing p) (sym (entry-passes o s f x p) ∙ e)
     pick (no n) = absurd (n (sym (entry-refuses o s f x n) ∙ e))
 
-pub passes : (o : Op) (s : Supply) (f : Frame) (x : Seen) → Passed o s f x → first_of (checks o s f x) ≡ DONE
+pub passes : (o : Op) (s : Supply) (f : Frame) (x : Seen) → Passed o s f x → first_of (checks o s f x) ≡ done_number
 unfolding later_checks find_checks nodes_check ◌if◌ first_of
 passes o s f x p = entry-passes o s f x (enters o f x.standing p.entered) ∙ rw (p.bits, p.there, p.room, p.nodes)
 

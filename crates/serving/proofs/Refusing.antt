@@ -3,7 +3,7 @@ use mathlib.Core.Path.{◌≡◌, refl, sym, ap, ◌∙◌}
 use mathlib.Core.Logic.{◌≢◌}
 use Prim.Native.Nat.{ℕ, zero, suc}
 use native.Mathlib.Omega.{arith}
-use Rattle.meaning.specs.Limits.{DONE}
+use Rattle.meaning.specs.Limits.{done_number}
 use Rattle.meaning.specs.Frames.{Frame, Answer}
 use Rattle.meaning.specs.Operations.{op_of}
 use Rattle.meaning.specs.Serve.{refused}
@@ -36,7 +36,7 @@ serve-fresh r f = respond-fresh (verdict r f) r (done (op_of f) r f)
 -- DEMAND 1
 pub demand1 : Demand1
 demand1 s f h =
-    let some : verdict (run_in s) f ≢ DONE = λ e. h (serve-number (run_in s) f ∙ e) in
+    let some : verdict (run_in s) f ≢ done_number = λ e. h (serve-number (run_in s) f ∙ e) in
     let same = serve-refused (run_in s) f some in
     record {
       state = ap (λ (x : Run × Answer). lent_in x.0) same;

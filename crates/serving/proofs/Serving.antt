@@ -6,7 +6,7 @@ use Prim.Native.Nat.{ℕ, zero, suc, ◌<◌}
 use native.Mathlib.Nat.{lt_irrefl}
 use native.Mathlib.Omega.{arith}
 use lib.ListN.{set}
-use Rattle.meaning.specs.Limits.{DONE, parties}
+use Rattle.meaning.specs.Limits.{done_number, parties}
 use Rattle.meaning.specs.Frames.{Frame, Answer}
 use Rattle.meaning.specs.Operations.{Op, new, clone, release, len, get, set_at, push_back, drop_last, open_walk, next, next_back, close_walk, hand_over, free_nodes, first, last, compare, unknown, anyone, uses, owner_or, op_of, taker}
 use Rattle.meaning.specs.Costs.{priced, cost}
@@ -59,24 +59,24 @@ does r f k p = by (op_of f) refl p
 -- ---- done or refused
 
 abbrev answered : (fresh value : ℕ) → Answer
-answered fresh value = record { number = DONE; fresh = fresh; value = value }
+answered fresh value = record { number = done_number; fresh = fresh; value = value }
 
-serve-done : (r : Run) (f : Frame) → verdict r f ≡ DONE → serve r f ≡ ((done (op_of f) r f).run, answered (fresh_in r (done (op_of f) r f).run) (done (op_of f) r f).value)
+serve-done : (r : Run) (f : Frame) → verdict r f ≡ done_number → serve r f ≡ ((done (op_of f) r f).run, answered (fresh_in r (done (op_of f) r f).run) (done (op_of f) r f).value)
 unfolding serve respond
 serve-done r f e = rw e
 
-plain_done : (r : Run) (f : Frame) → first_of (checks (op_of f) (supply_in r) f (seen_by f (giver_in r f) (taker_in r f))) ≡ DONE
+plain_done : (r : Run) (f : Frame) → first_of (checks (op_of f) (supply_in r) f (seen_by f (giver_in r f) (taker_in r f))) ≡ done_number
     → plain.serve (supply_in r) f (table_in r) ≡ (set (table_in r) (taker f) (effect_on (op_of f) r f).0, answered (cost (op_of f) (seen_by f (giver_in r f) (taker_in r f)).bits (seen_by f (giver_in r f) (taker_in r f)).length).fresh (effect_on (op_of f) r f).1)
 unfolding plain.serve plain.step plain.respond
 plain_done r f e = rw e
 
-respond-refuses : (n : ℕ) (r : Run) (f : Frame) → n ≢ DONE → respond n r (done (op_of f) r f) ≡ (r, refused n)
+respond-refuses : (n : ℕ) (r : Run) (f : Frame) → n ≢ done_number → respond n r (done (op_of f) r f) ≡ (r, refused n)
 unfolding respond
 respond-refuses zero r f h = absurd (h refl)
 respond-refuses (suc n) r f h = refl
 
 -- a refused frame changes nothing, and its answer is the number alone
-pub serve-refused : (r : Run) (f : Frame) → verdict r f ≢ DONE → serve r f ≡ (r, refused (verdict r f))
+pub serve-refused : (r : Run) (f : Frame) → verdict r f ≢ done_number → serve r f ≡ (r, refused (verdict r f))
 unfolding serve
 serve-refused r f h = respond-refuses (verdict r f) r f h
 
@@ -96,7 +96,7 @@ frame-serves r f k = pick (verdict r f) refl
           falls = λ a b. rw (serve-done r f e) (d.falls a b);
         }
     pick (suc n) e =
-        let some : verdict r f ≢ DONE = λ z. lt_irrefl zero (omega arith) in
+        let some : verdict r f ≢ done_number = λ z. lt_irrefl zero (omega arith) in
         record {
           runs = rw (serve-refused r f some) k;
           plain =

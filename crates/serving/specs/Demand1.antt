@@ -1,6 +1,6 @@
 -- Demand 1, of one frame: refused, it changes nothing.
 use Rattle.std.specs.Prelude.{◌≡◌, ◌≢◌}
-use Rattle.meaning.specs.Limits.{DONE}
+use Rattle.meaning.specs.Limits.{done_number}
 use Rattle.meaning.specs.Lent.{Lent}
 use Rattle.meaning.specs.Frames.{Frame}
 use Rattle.meaning.specs.Serve.{refused}
@@ -12,4 +12,4 @@ pub record Untouched (s : Lent) (f : Frame) : Type 0 where
   pub told : answer s f ≡ refused (answer s f).number
 
 abbrev pub Demand1 : Type 0
-Demand1 = (s : Lent) (f : Frame) → (answer s f).number ≢ DONE → Untouched s f
+Demand1 = (s : Lent) (f : Frame) → (answer s f).number ≢ done_number → Untouched s f

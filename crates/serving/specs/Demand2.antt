@@ -1,6 +1,6 @@
 -- Demand 2: what a frame makes of a well-formed state and what it is answered are the plain table's; so for any number of frames, and for a batch.
 use Rattle.std.specs.Prelude.{◌≡◌, ◌≢◌, ◌↔◌, Bool, true, not, List, ℕ, ◌+◌, ◌-◌, ◌/◌, ◌<◌, eqb, length}
-use Rattle.meaning.specs.Limits.{frame_size, FREE, DONE, NO-NODES}
+use Rattle.meaning.specs.Limits.{frame_size, free_kind, done_number, no_nodes_number}
 use Rattle.meaning.specs.Counting.{how_many}
 use Rattle.meaning.specs.Lent.{kind_of, Lent, size, free_nodes}
 use Rattle.meaning.specs.Links.{roots, Reached}
@@ -31,7 +31,7 @@ charge_for t f = let v = source_of (party_at t (giver f)) f in (cost (op_of f) v
 
 -- 10 is given exactly if all earlier checks pass and fewer nodes are free than the charge
 abbrev pub ShortExactly : Lent → Frame → Type 0
-ShortExactly s f = ((answer s f).number ≡ NO-NODES) ↔ (((serve no_limit f (table_of s)).1.number ≡ DONE) × (free_nodes s.nodes < charge_for (table_of s) f))
+ShortExactly s f = ((answer s f).number ≡ no_nodes_number) ↔ (((serve no_limit f (table_of s)).1.number ≡ done_number) × (free_nodes s.nodes < charge_for (table_of s) f))
 
 -- ---- frames in order
 
@@ -49,11 +49,11 @@ BatchAnswered s requests room =
 -- ---- free nodes
 
 abbrev pub in_use : Lent → (n : ℕ) → Bool
-in_use s n = not (eqb (kind_of s.nodes n) FREE)
+in_use s n = not (eqb (kind_of s.nodes n) free_kind)
 
 pub record FreeAreRest (s : Lent) : Type 0 where
   -- a node is free exactly if no live slot or open walk reaches it
-  pub unreached : (n : ℕ) → (kind_of s.nodes n ≡ FREE) ↔ (Reached s.nodes (roots s) n → ⊥)
+  pub unreached : (n : ℕ) → (kind_of s.nodes n ≡ free_kind) ↔ (Reached s.nodes (roots s) n → ⊥)
   pub reached : (n : ℕ) → (in_use s n ≡ true) ↔ Reached s.nodes (roots s) n
   -- N less the nodes reached
   pub rest : free_nodes s.nodes + how_many (size s) (in_use s) ≡ size s

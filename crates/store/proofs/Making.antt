@@ -6,7 +6,7 @@ use Prim.Native.Nat.{ℕ, ◌+◌, ◌-◌, ◌*◌, ◌≤◌, ◌<◌}
 use native.Mathlib.Omega.{arith}
 use lib.ListN.{length, get_or, set}
 use lib.Seq.{get_or-set_other}
-use Rattle.meaning.specs.Limits.{node_cells, FREE}
+use Rattle.meaning.specs.Limits.{node_cells, free_kind}
 use Rattle.meaning.specs.Lent.{Nodes, cell_of}
 use Rattle.cells.specs.Cells.{put_cells}
 use Rattle.cells.proofs.CellLaws.{put-inside, put_other}
@@ -41,7 +41,7 @@ module _ (s : Nodes) (m k u : ℕ) (a : List ℕ) (whole : length a ≡ node_cel
   pub write_same : (n : ℕ) → n ≢ m → Same s (write_node s m k u a) n
   unfolding write_node
   write_same n f = record {
-    kind = get_or-set_other s.kinds m n k FREE f;
+    kind = get_or-set_other s.kinds m n k free_kind f;
     used = get_or-set_other s.used m n u 0 f;
     cells = λ i l. put_other s.cells m a fits whole n i f l;
   }

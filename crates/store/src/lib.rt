@@ -3,7 +3,7 @@
 
 ghost use Rattle.std.specs.Prelude.{◌≡◌, ◌+◌, ◌-◌, ◌≤◌, ◌<◌, length, take, get_or};
 ghost use Rattle.std.proofs.Math.Seq.{slice};
-ghost use Rattle.meaning.specs.Limits.{node_cells, LEAF, BRANCH};
+ghost use Rattle.meaning.specs.Limits.{node_cells, leaf_kind, branch_kind};
 ghost use Rattle.store.specs.Store.{nodes_of, store_of, raise, raises};
 ghost use Rattle.store.specs.Ready.{Sized, FreeOnTop, HasPlace, Room, AllBelow};
 ghost use Rattle.store.specs.Answers.{Written, Makes, others};
@@ -86,7 +86,7 @@ pub fn make_leaf(
 ) -> Made
     requires sized { Sized (store_of kinds.old used.old counts.old cells.old order.now free) }
     requires free_on_top { FreeOnTop (store_of kinds.old used.old counts.old cells.old order.now free) }
-    ensures { Makes (store_of kinds.old used.old counts.old cells.old order.now free) LEAF len a
+    ensures { Makes (store_of kinds.old used.old counts.old cells.old order.now free) leaf_kind len a
         (store_of kinds.new used.new counts.new cells.new order.now result.free) result.node.0 }
 {
     make(kinds, used, counts, cells, order, free, LEAF, len, a)
@@ -105,7 +105,7 @@ pub fn make_branch(
 ) -> Made
     requires sized { Sized (store_of kinds.old used.old counts.old cells.old order.now free) }
     requires free_on_top { FreeOnTop (store_of kinds.old used.old counts.old cells.old order.now free) }
-    ensures { Makes (store_of kinds.old used.old counts.old cells.old order.now free) BRANCH len a
+    ensures { Makes (store_of kinds.old used.old counts.old cells.old order.now free) branch_kind len a
         (store_of kinds.new used.new counts.new cells.new order.now result.free) result.node.0 }
 {
     make(kinds, used, counts, cells, order, free, BRANCH, len, a)

@@ -10,7 +10,7 @@ use borrow.Author.Tests.{lt-ltb, le-ltb, eq-eqb, ne_eqb}
 use lib.Dec.{eqb}
 use lib.ListN.{length, take, get_or, set, length-set}
 use lib.Seq.{get_or-set_same, get_or-set_other}
-use Rattle.meaning.specs.Limits.{node_cells, FREE, BRANCH}
+use Rattle.meaning.specs.Limits.{node_cells, free_kind, branch_kind}
 use Rattle.meaning.specs.Lent.{kind_of, used_of, child_count}
 use Rattle.cells.specs.Cells.{cells_of}
 use Rattle.store.specs.Store.{Store, node_count, children_of}
@@ -71,29 +71,29 @@ lowers-sweeping at s (n ∷ ns) h w =
 -- ---- a node scanned
 
 -- what a branch holds, as the code reads it
-pub branch-children : (s : Store) (n : ℕ) (a : List ℕ) → Whole s → kind_of s.nodes n ≡ BRANCH → a ≡ cells_of s.nodes.cells n
+pub branch-children : (s : Store) (n : ℕ) (a : List ℕ) → Whole s → kind_of s.nodes n ≡ branch_kind → a ≡ cells_of s.nodes.cells n
     → (used_of s.nodes n ≤ node_cells) × AllBelow (length s.counts) (take (used_of s.nodes n) a)
 unfolding child_count children_of
 branch-children s n a w k e =
-    let b : eqb (kind_of s.nodes n) BRANCH ≡ true = eq-eqb (kind_of s.nodes n) BRANCH k in
+    let b : eqb (kind_of s.nodes n) branch_kind ≡ true = eq-eqb (kind_of s.nodes n) branch_kind k in
     (rw b at (w.few n), rw (w.sized.counts, e) (rw b at (w.children n)))
 
-pub scan-branch : (s s' : Store) (n : ℕ) (a : List ℕ) → kind_of s.nodes n ≡ BRANCH → a ≡ cells_of s.nodes.cells n
+pub scan-branch : (s s' : Store) (n : ℕ) (a : List ℕ) → kind_of s.nodes n ≡ branch_kind → a ≡ cells_of s.nodes.cells n
     → s' ≡ lowers (vacate s n) (take (used_of s.nodes n) a) → s' ≡ scan s n
 unfolding scan child_count children_of
-scan-branch s s' n a k e l = rw (eq-eqb (kind_of s.nodes n) BRANCH k, ← e) l
+scan-branch s s' n a k e l = rw (eq-eqb (kind_of s.nodes n) branch_kind k, ← e) l
 
-pub scan-other : (s : Store) (n : ℕ) → (kind_of s.nodes n ≡ BRANCH → ⊥) → vacate s n ≡ scan s n
+pub scan-other : (s : Store) (n : ℕ) → (kind_of s.nodes n ≡ branch_kind → ⊥) → vacate s n ≡ scan s n
 unfolding scan child_count children_of lowers
-scan-other s n k = rw (ne_eqb (kind_of s.nodes n) BRANCH k)
+scan-other s n k = rw (ne_eqb (kind_of s.nodes n) branch_kind k)
 
 -- a node that became free has no children, and every other has those that it had
 vacate-count : (s : Store) (n m : ℕ) → n < node_count s
     → (child_count (vacate s n).nodes m ≡ 0) ⊎ (child_count (vacate s n).nodes m ≡ child_count s.nodes m)
 unfolding vacate child_count
 vacate-count s n m b = elim (ℕ_discrete m n) [
-  | yes p ↦ inl (rw (p, get_or-set_same s.nodes.kinds n FREE FREE b))
-  | no p ↦ inr (rw (get_or-set_other s.nodes.kinds n m FREE FREE p, get_or-set_other s.nodes.used n m 0 0 p))
+  | yes p ↦ inl (rw (p, get_or-set_same s.nodes.kinds n free_kind free_kind b))
+  | no p ↦ inr (rw (get_or-set_other s.nodes.kinds n m free_kind free_kind p, get_or-set_other s.nodes.used n m 0 0 p))
 ]
 
 none_below : (k : ℕ) → AllBelow k []
@@ -108,7 +108,7 @@ vacate-sweeping : (at : ℕ) (s : Store) (n : ℕ) → n < node_count s → Swee
 unfolding vacate
 vacate-sweeping at s n b w =
     let z = w.whole.sized in
-    let e : length (set s.nodes.kinds n FREE) ≡ node_count s = length-set s.nodes.kinds n FREE in
+    let e : length (set s.nodes.kinds n free_kind) ≡ node_count s = length-set s.nodes.kinds n free_kind in
     record {
       whole = record {
         sized = record {
@@ -127,7 +127,7 @@ vacate-sweeping at s n b w =
 pub scan-sweeping : (at : ℕ) (s : Store) (n : ℕ) → n < node_count s → Sweeping at s → Sweeping at (scan s n)
 unfolding scan vacate
 scan-sweeping at s n b w =
-    lowers-sweeping at (vacate s n) (children_of s.nodes n) (rw (length-set s.nodes.kinds n FREE) (w.whole.children n)) (vacate-sweeping at s n b w)
+    lowers-sweeping at (vacate s n) (children_of s.nodes n) (rw (length-set s.nodes.kinds n free_kind) (w.whole.children n)) (vacate-sweeping at s n b w)
 
 -- ---- the order scanned
 

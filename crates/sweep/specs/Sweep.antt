@@ -1,6 +1,6 @@
 -- What a lowered count makes of the store: what nothing reaches any longer goes to the free order, which is its own queue.
 use Rattle.std.specs.Prelude.{cond, List, [], ◌∷◌, ℕ, zero, suc, ◌+◌, ◌-◌, ltb, length, get_or, set}
-use Rattle.meaning.specs.Limits.{FREE}
+use Rattle.meaning.specs.Limits.{free_kind}
 use Rattle.store.specs.Store.{Store, nodes_of, children_of}
 
 -- a node of that count loses a link; with its last it goes on the free order, to be scanned there
@@ -18,7 +18,7 @@ lowers s (n ∷ ns) = lowers (lower s n) ns
 
 -- a node becomes free: kind free, used 0 (its count is 0 by then)
 unfoldable pub vacate : Store → (n : ℕ) → Store
-vacate s n = record { nodes = nodes_of (set s.nodes.kinds n FREE) (set s.nodes.used n 0) s.nodes.cells; counts = s.counts; order = s.order; free = s.free }
+vacate s n = record { nodes = nodes_of (set s.nodes.kinds n free_kind) (set s.nodes.used n 0) s.nodes.cells; counts = s.counts; order = s.order; free = s.free }
 
 -- a node on the free order is scanned: it becomes free, and its children lose a link each
 unfoldable pub scan : Store → (n : ℕ) → Store

@@ -8,7 +8,7 @@ use native.Mathlib.Nat.{lt_irrefl, mod_self}
 use native.Mathlib.Omega.{arith}
 use lib.Dec.{ltb}
 use lib.ListN.{get_or, replicate}
-use Rattle.meaning.specs.Limits.{node_cells, FREE}
+use Rattle.meaning.specs.Limits.{node_cells, free_kind}
 use Rattle.meaning.specs.Counting.{divides}
 use Rattle.meaning.specs.Lent.{Nodes, kind_of}
 use Rattle.meaning.specs.Shape.{degree, bucket}
@@ -72,7 +72,7 @@ pub root-spare : (root : ℕ) → Spare (root ∷ replicate (node_cells - 1) 0) 
 root-spare root zero l m = absurd (lt_irrefl zero (omega arith))
 root-spare root (suc i) l m = replicate-at (node_cells - 1) i 0
 
-pub grow-climbs : (s : Store) (bits h root index v : ℕ) → LegalBits bits → Sized s → kind_of s.nodes root ≢ FREE → index ≡ degree bits ^ suc h
+pub grow-climbs : (s : Store) (bits h root index v : ℕ) → LegalBits bits → Sized s → kind_of s.nodes root ≢ free_kind → index ≡ degree bits ^ suc h
     → Climb s (suc (suc h)) (grow s bits h root index v)
 unfolding grow
 grow-climbs s bits h root index v legal z f full =

@@ -7,7 +7,7 @@ use native.Mathlib.Nat.{lt_irrefl, lt_of_mul-lt-mul_right, mul-le-mul_right}
 use native.Mathlib.Omega.{arith}
 use lib.ListN.{get_or, set}
 use lib.Seq.{get_or-set_other}
-use Rattle.meaning.specs.Limits.{BRANCH}
+use Rattle.meaning.specs.Limits.{branch_kind}
 use Rattle.meaning.specs.Counting.{divides}
 use Rattle.meaning.specs.Lent.{cell_of}
 use Rattle.meaning.specs.Shape.{degree, bucket}
@@ -86,7 +86,7 @@ branch-cuts s bits h n last k c legal z q empty some = record {
     splits : b * C + inside bits h last ≡ inside bits (suc h) last
     splits = inside-splits bits h last
 
-    w : Written (branch_cut s c b).store.nodes (branch_cut s c b).node BRANCH b (set c.cells b 0)
+    w : Written (branch_cut s c b).store.nodes (branch_cut s c b).node branch_kind b (set c.cells b 0)
     w = branch-cut-writes s c b k z q.whole
 
     extends : Extends s.nodes (branch_cut s c b).store.nodes

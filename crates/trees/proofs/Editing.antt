@@ -7,8 +7,8 @@ use Prim.Native.Nat.{ℕ, zero, suc, ◌+◌, ◌^◌, ◌<◌, max}
 use native.Mathlib.Nat.{lt_irrefl}
 use native.Mathlib.Numerals.{add-one}
 use native.Mathlib.Omega.{arith}
-use lib.ListN.{length, set, replicate}
-use Rattle.meaning.specs.Limits.{node_cells, LEAF, max_length}
+use lib.ListN.{set, replicate}
+use Rattle.meaning.specs.Limits.{node_cells, leaf_kind, max_length}
 use Rattle.meaning.specs.Counting.{rows}
 use Rattle.meaning.specs.Lent.{Nodes, VersionRecord}
 use Rattle.meaning.specs.Shape.{degree, height, is_root_full}
@@ -59,7 +59,7 @@ version-index s v i l m =
 pub empty-edits : (s : Store) (bits k : ℕ) → LegalBits bits → Stock s (suc k) → Edited s 1 k [] (edit (empty_leaf s) bits 0)
 unfolding empty_leaf Shaped height contents rows
 empty-edits s bits k legal z =
-    let w = make-writes s k LEAF 0 (replicate node_cells 0) z refl in
+    let w = make-writes s k leaf_kind 0 (replicate node_cells 0) z refl in
     climb-edits s (empty_leaf s) bits 0 1 k [] (empty-climbs s) (stock-lessens s (suc k) (1 + k) (omega arith) z)
     (record { live = refl; bits = legal; length = omega arith; shape = record { kind = w.kinds; used = w.uses; room = omega arith } })
     refl

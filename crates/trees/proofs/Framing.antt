@@ -3,7 +3,7 @@ use mathlib.Core.Path.{◌≡◌, refl, sym, ◌∙◌}
 use mathlib.Core.Logic.{◌≢◌}
 use Prim.Native.Nat.{ℕ, ◌<◌}
 use native.Mathlib.Decide.{ℕ_discrete}
-use Rattle.meaning.specs.Limits.{FREE}
+use Rattle.meaning.specs.Limits.{free_kind}
 use Rattle.meaning.specs.Lent.{Nodes, kind_of}
 use Rattle.meaning.specs.Trees.{Shaped, element}
 use Rattle.meaning.specs.WellFormed.{LegalBits}
@@ -26,14 +26,14 @@ extends-trans s t u p q = record {
 }
 
 -- a node that is in use stays so
-pub use-stays : (s t : Nodes) (n : ℕ) → Extends s t → kind_of s n ≢ FREE → kind_of t n ≢ FREE
+pub use-stays : (s t : Nodes) (n : ℕ) → Extends s t → kind_of s n ≢ free_kind → kind_of t n ≢ free_kind
 use-stays s t n e f = rw (e.same n f).kind f
 
 -- and what is free was free
-pub free_was : (s t : Nodes) (n : ℕ) → Extends s t → kind_of t n ≡ FREE → kind_of s n ≡ FREE
-free_was s t n e q = pick (ℕ_discrete (kind_of s n) FREE)
+pub free_was : (s t : Nodes) (n : ℕ) → Extends s t → kind_of t n ≡ free_kind → kind_of s n ≡ free_kind
+free_was s t n e q = pick (ℕ_discrete (kind_of s n) free_kind)
   where
-    pick : Dec (kind_of s n ≡ FREE) → kind_of s n ≡ FREE
+    pick : Dec (kind_of s n ≡ free_kind) → kind_of s n ≡ free_kind
     pick (yes p) = p
     pick (no f) = sym (e.same n f).kind ∙ q
 

@@ -8,7 +8,7 @@ use native.Mathlib.Decide.{ℕ_discrete}
 use native.Mathlib.Omega.{arith}
 use lib.ListN.{length, get_or, length-set}
 use lib.Seq.{get_or-set_same, get_or-set_other}
-use Rattle.meaning.specs.Limits.{node_cells, FREE}
+use Rattle.meaning.specs.Limits.{node_cells, free_kind}
 use Rattle.meaning.specs.Lent.{Nodes, kind_of, used_of, cell_of}
 use Rattle.store.specs.Store.{Store, node_count, write_node, top, make, raised}
 use Rattle.trees.specs.Stock.{waiting, Stock}
@@ -29,10 +29,10 @@ top-waits s = refl
 pub top-node : (s : Store) (k : ℕ) → Stock s (suc k) → top s < node_count s
 top-node s k z = rw (top-waits s) (z.node 0 (omega arith))
 
-pub top-free : (s : Store) (k : ℕ) → Stock s (suc k) → kind_of s.nodes (top s) ≡ FREE
+pub top-free : (s : Store) (k : ℕ) → Stock s (suc k) → kind_of s.nodes (top s) ≡ free_kind
 top-free s k z = rw (top-waits s) (z.kind 0 (omega arith))
 
-pub use-apart : (s : Store) (k n : ℕ) → Stock s (suc k) → kind_of s.nodes n ≢ FREE → n ≢ top s
+pub use-apart : (s : Store) (k n : ℕ) → Stock s (suc k) → kind_of s.nodes n ≢ free_kind → n ≢ top s
 use-apart s k n z f e = f (ap (kind_of s.nodes) e ∙ top-free s k z)
 
 -- ---- the node that is written
@@ -44,7 +44,7 @@ module _ (s : Store) (k kind used : ℕ) (a : List ℕ) (z : Stock s (suc k)) (w
   pub make-writes : Written (make s kind used a).nodes (top s) kind used a
   unfolding make write_node
   make-writes = record {
-    kinds = get_or-set_same s.nodes.kinds (top s) kind FREE (top-node s k z);
+    kinds = get_or-set_same s.nodes.kinds (top s) kind free_kind (top-node s k z);
     uses = get_or-set_same s.nodes.used (top s) used 0 (omega (arith, z.sizes.used, top-node s k z));
     whole = put_same s.nodes.cells (top s) a fits whole;
     cell = write_cell s.nodes (top s) kind used a whole fits;
@@ -83,14 +83,14 @@ module _ (s : Store) (k kind used : ℕ) (a : List ℕ) (z : Stock s (suc k)) (w
         node = λ j l. rw (later j, size) (z.node (suc j) (omega arith));
         kind = λ j l.
             rw (later j)
-            (get_or-set_other s.nodes.kinds (top s) (waiting s (suc j)) kind FREE
+            (get_or-set_other s.nodes.kinds (top s) (waiting s (suc j)) kind free_kind
             (λ e. lt_irrefl zero (omega (arith, z.apart (suc j) 0 (omega arith) (omega arith) (e ∙ top-waits s))))
             ∙ z.kind (suc j) (omega arith));
         apart = λ i j l m e.
             omega (arith, z.apart (suc i) (suc j) (omega arith) (omega arith) (sym (later i) ∙ e ∙ later j));
       }
 
-  pub make-copies : kind ≢ FREE → Copied s 1 k (record { store = make s kind used a; node = top s })
+  pub make-copies : kind ≢ free_kind → Copied s 1 k (record { store = make s kind used a; node = top s })
   unfolding make write_node
   make-copies f = record {
     extends = make-extends;
@@ -107,7 +107,7 @@ module _ (s : Store) (k kind used : ℕ) (a : List ℕ) (z : Stock s (suc k)) (w
       t : Nodes
       t = (make s kind used a).nodes
 
-      pick : Dec (n ≡ top s) → kind_of t n ≢ FREE → used_of t n ≤ i → i < node_cells → cell_of t n i ≡ 0
+      pick : Dec (n ≡ top s) → kind_of t n ≢ free_kind → used_of t n ≤ i → i < node_cells → cell_of t n i ≡ 0
       pick (yes e) f l m =
           let l₂ : used ≤ i = rw (e, make-writes.uses) at l in
           rw e (make-writes.cell i m ∙ spare i l₂ m)

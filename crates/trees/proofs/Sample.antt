@@ -5,7 +5,7 @@ use Prim.Native.Nat.{ℕ, zero, suc, ◌<◌}
 use native.Mathlib.Nat.{lt_irrefl}
 use native.Mathlib.Omega.{arith}
 use lib.ListN.{replicate}
-use Rattle.meaning.specs.Limits.{FREE, default_bits}
+use Rattle.meaning.specs.Limits.{free_kind, default_bits}
 use Rattle.meaning.specs.Lent.{kind_of}
 use Rattle.meaning.specs.Shape.{height}
 use Rattle.meaning.specs.Trees.{contents}
@@ -35,7 +35,7 @@ sample-stock = record {
     node (suc zero) l = omega arith
     node (suc (suc j)) l = absurd (lt_irrefl zero (omega arith))
 
-    kind : (j : ℕ) → j < 2 → kind_of sample.nodes (waiting sample j) ≡ FREE
+    kind : (j : ℕ) → j < 2 → kind_of sample.nodes (waiting sample j) ≡ free_kind
     kind zero l = refl
     kind (suc zero) l = refl
     kind (suc (suc j)) l = absurd (lt_irrefl zero (omega arith))

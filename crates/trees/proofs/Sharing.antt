@@ -10,7 +10,7 @@ use native.Mathlib.Omega.{arith}
 use lib.Dec.{eqb}
 use lib.ListN.{length, get_or, set, take, drop, replicate, length-take, drop_of_length-le}
 use lib.Seq.{slice, take-take, take-set-le, take-set-lt, take-suc-set, set_split, get_or-set_same, get_or-set_other, length-take-le}
-use Rattle.meaning.specs.Limits.{node_cells, FREE}
+use Rattle.meaning.specs.Limits.{node_cells, free_kind}
 use Rattle.meaning.specs.Counting.{bit, occurrences, Each}
 use Rattle.meaning.specs.Lent.{Nodes, kind_of}
 use Rattle.meaning.proofs.Lists.{occurs-append, each_append}
@@ -41,10 +41,10 @@ pub others-stand : (a : List ℕ) (u b : ℕ) → b ≤ u → Each (λ x. (i : �
 others-stand a u b l = each-other _ a u b l (λ i m f. (i, m, f, refl))
 
 -- what a branch shares is in use
-pub others-used : (s : Nodes) (c : Source) (b : ℕ) → b ≤ c.used → Linked s c → Each (λ x. kind_of s x ≢ FREE) (others c.cells c.used b)
+pub others-used : (s : Nodes) (c : Source) (b : ℕ) → b ≤ c.used → Linked s c → Each (λ x. kind_of s x ≢ free_kind) (others c.cells c.used b)
 others-used s c b l q = each-other _ c.cells c.used b l (λ i m f. q i m)
 
-pub slice-used : (s : Nodes) (c : Source) (b : ℕ) → b ≤ c.used → Linked s c → Each (λ x. kind_of s x ≢ FREE) (slice 0 b c.cells)
+pub slice-used : (s : Nodes) (c : Source) (b : ℕ) → b ≤ c.used → Linked s c → Each (λ x. kind_of s x ≢ free_kind) (slice 0 b c.cells)
 slice-used s c b l q = each-slice _ 0 b c.cells (λ i m k. q i (omega arith))
 
 -- a new root shares the old one

@@ -8,7 +8,7 @@ use native.Mathlib.Omega.{arith}
 use lib.Dec.{ltb}
 use lib.ListN.{length, get_or, replicate, length-replicate}
 use borrow.Author.Tests.{ltb-true, ltb-false}
-use Rattle.meaning.specs.Limits.{node_cells, FREE}
+use Rattle.meaning.specs.Limits.{node_cells, free_kind}
 use Rattle.meaning.specs.Lent.{Nodes, kind_of, used_of, cell_of}
 use Rattle.meaning.specs.Shape.{degree, bucket}
 use Rattle.meaning.specs.Trees.{Shaped}
@@ -28,11 +28,11 @@ use Rattle.trees.proofs.Numbers.{cut-used}
 use Rattle.cells.proofs.CellLaws.{cells_at, cells-length}
 use Rattle.store.proofs.Making.{sized-place}
 
-use-whole : (s : Store) (n : ℕ) → Sized s → kind_of s.nodes n ≢ FREE → length (cells_of s.nodes.cells n) ≡ node_cells
+use-whole : (s : Store) (n : ℕ) → Sized s → kind_of s.nodes n ≢ free_kind → length (cells_of s.nodes.cells n) ≡ node_cells
 use-whole s n z f = cells-length s.nodes.cells n (sized-place s n z (used-inside s.nodes n f)).cells
 
 -- spare cells of a node that stands, and of none
-stands-spare : (s : Nodes) (n : ℕ) → kind_of s n ≢ FREE → Tidy s → Spare (cells_of s.cells n) (used_of s n)
+stands-spare : (s : Nodes) (n : ℕ) → kind_of s n ≢ free_kind → Tidy s → Spare (cells_of s.cells n) (used_of s n)
 stands-spare s n f tidy i l m = cells_at s.cells n i m ∙ tidy n i f l m
 
 pub blank-spare : (u : ℕ) → Spare (replicate node_cells 0) u

@@ -7,7 +7,7 @@ use native.Mathlib.Nat.{lt_irrefl}
 use native.Mathlib.Omega.{arith}
 use lib.ListN.{length, get_or, set, length-set}
 use lib.Seq.{slice, get_or-set_same, get_or-set_other}
-use Rattle.meaning.specs.Limits.{node_cells, LEAF, BRANCH}
+use Rattle.meaning.specs.Limits.{node_cells, leaf_kind, branch_kind}
 use Rattle.meaning.specs.Lent.{cell_of}
 use Rattle.meaning.specs.Shape.{degree, bucket}
 use Rattle.meaning.specs.Trees.{Shaped, element}
@@ -27,32 +27,32 @@ use Rattle.trees.proofs.Making.{make-writes, make-copies, raised-stocks}
 -- ---- leaves
 
 module _ (s : Store) (c : Source) (b v k : ℕ) (z : Stock s (suc k)) (whole : length c.cells ≡ node_cells) where
-  pub leaf-writes : Written (leaf_with s c b v).store.nodes (leaf_with s c b v).node LEAF (max c.used (b + 1)) (set c.cells b v)
+  pub leaf-writes : Written (leaf_with s c b v).store.nodes (leaf_with s c b v).node leaf_kind (max c.used (b + 1)) (set c.cells b v)
   unfolding leaf_with
-  leaf-writes = make-writes s k LEAF (max c.used (b + 1)) (set c.cells b v) z (length-set c.cells b v ∙ whole)
+  leaf-writes = make-writes s k leaf_kind (max c.used (b + 1)) (set c.cells b v) z (length-set c.cells b v ∙ whole)
 
   pub leaf-copies : Copied s 1 k (leaf_with s c b v)
   unfolding leaf_with
-  leaf-copies = make-copies s k LEAF (max c.used (b + 1)) (set c.cells b v) z (length-set c.cells b v ∙ whole) (λ e. lt_irrefl zero (omega arith))
+  leaf-copies = make-copies s k leaf_kind (max c.used (b + 1)) (set c.cells b v) z (length-set c.cells b v ∙ whole) (λ e. lt_irrefl zero (omega arith))
 
 module _ (s : Store) (c : Source) (b k : ℕ) (z : Stock s (suc k)) (whole : length c.cells ≡ node_cells) where
-  pub leaf-cut-writes : Written (leaf_cut s c b).store.nodes (leaf_cut s c b).node LEAF b (set c.cells b 0)
+  pub leaf-cut-writes : Written (leaf_cut s c b).store.nodes (leaf_cut s c b).node leaf_kind b (set c.cells b 0)
   unfolding leaf_cut
-  leaf-cut-writes = make-writes s k LEAF b (set c.cells b 0) z (length-set c.cells b 0 ∙ whole)
+  leaf-cut-writes = make-writes s k leaf_kind b (set c.cells b 0) z (length-set c.cells b 0 ∙ whole)
 
   pub leaf-cut-copies : Copied s 1 k (leaf_cut s c b)
   unfolding leaf_cut
-  leaf-cut-copies = make-copies s k LEAF b (set c.cells b 0) z (length-set c.cells b 0 ∙ whole) (λ e. lt_irrefl zero (omega arith))
+  leaf-cut-copies = make-copies s k leaf_kind b (set c.cells b 0) z (length-set c.cells b 0 ∙ whole) (λ e. lt_irrefl zero (omega arith))
 
-  pub branch-cut-writes : Written (branch_cut s c b).store.nodes (branch_cut s c b).node BRANCH b (set c.cells b 0)
+  pub branch-cut-writes : Written (branch_cut s c b).store.nodes (branch_cut s c b).node branch_kind b (set c.cells b 0)
   unfolding branch_cut top
   branch-cut-writes =
-      make-writes (raised s (slice 0 b c.cells)) k BRANCH b (set c.cells b 0) (raised-stocks s (suc k) (slice 0 b c.cells) z) (length-set c.cells b 0 ∙ whole)
+      make-writes (raised s (slice 0 b c.cells)) k branch_kind b (set c.cells b 0) (raised-stocks s (suc k) (slice 0 b c.cells) z) (length-set c.cells b 0 ∙ whole)
 
   pub branch-cut-copies : Copied s 1 k (branch_cut s c b)
   unfolding branch_cut top
   branch-cut-copies =
-      let p = make-copies (raised s (slice 0 b c.cells)) k BRANCH b (set c.cells b 0) (raised-stocks s (suc k) (slice 0 b c.cells) z) (length-set c.cells b 0 ∙ whole) (λ e. lt_irrefl zero (omega arith)) in
+      let p = make-copies (raised s (slice 0 b c.cells)) k branch_kind b (set c.cells b 0) (raised-stocks s (suc k) (slice 0 b c.cells) z) (length-set c.cells b 0 ∙ whole) (λ e. lt_irrefl zero (omega arith)) in
       record { extends = p.extends; stock = p.stock; order = p.order; free = p.free; fresh = p.fresh; standing = p.standing }
 
 -- ---- a branch over the node made last
@@ -65,13 +65,13 @@ module _ (r : Made) (c : Source) (b k : ℕ) (z : Stock r.store (suc k)) (whole 
   unfolding shared
   stocked = raised-stocks r.store (suc k) (others c.cells c.used b) z
 
-  pub branch-writes : Written (branch_with c b r).store.nodes (branch_with c b r).node BRANCH (max c.used (b + 1)) (set c.cells b r.node)
+  pub branch-writes : Written (branch_with c b r).store.nodes (branch_with c b r).node branch_kind (max c.used (b + 1)) (set c.cells b r.node)
   unfolding branch_with top shared
-  branch-writes = make-writes shared k BRANCH (max c.used (b + 1)) (set c.cells b r.node) stocked (length-set c.cells b r.node ∙ whole)
+  branch-writes = make-writes shared k branch_kind (max c.used (b + 1)) (set c.cells b r.node) stocked (length-set c.cells b r.node ∙ whole)
 
   made : Copied shared 1 k (branch_with c b r)
   unfolding branch_with top shared
-  made = make-copies shared k BRANCH (max c.used (b + 1)) (set c.cells b r.node) stocked (length-set c.cells b r.node ∙ whole) (λ e. lt_irrefl zero (omega arith))
+  made = make-copies shared k branch_kind (max c.used (b + 1)) (set c.cells b r.node) stocked (length-set c.cells b r.node ∙ whole) (λ e. lt_irrefl zero (omega arith))
 
   pub branch-extends : Extends r.store.nodes (branch_with c b r).store.nodes
   unfolding shared

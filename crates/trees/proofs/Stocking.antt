@@ -8,7 +8,7 @@ use native.Mathlib.Omega.{arith}
 use lib.ListN.{length, get_or, take}
 use lib.Seq.{length-take-le, get_or-take}
 use borrow.Author.Tests.{eq-eqb}
-use Rattle.meaning.specs.Limits.{FREE}
+use Rattle.meaning.specs.Limits.{free_kind}
 use Rattle.meaning.specs.Counting.{bit, occurrences}
 use Rattle.meaning.specs.Lent.{kind_of, is_free}
 use Rattle.meaning.proofs.Nodes.{bit-free}
@@ -47,7 +47,7 @@ order-stocks s z within once = record {
     at : (j : ℕ) → j < s.free → get_or firsts (s.free - suc j) 0 ≡ waiting s j
     at j l = get_or-take s.free s.order (s.free - suc j) 0 (omega arith)
 
-    free : (j : ℕ) → j < s.free → (waiting s j < node_count s) × (kind_of s.nodes (waiting s j) ≡ FREE)
+    free : (j : ℕ) → j < s.free → (waiting s j < node_count s) × (kind_of s.nodes (waiting s j) ≡ free_kind)
     free j l =
         let there : 1 ≤ occurrences (waiting s j) firsts = rw (at j l) at (occurs-at firsts (s.free - suc j) (omega (arith, long))) in
         bit-free s.nodes (waiting s j) (omega (arith, once (waiting s j)))

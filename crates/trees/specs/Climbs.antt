@@ -1,6 +1,6 @@
 -- A copied way as the steps up that make it, each with what counts of links have to know of it.
 use Rattle.std.specs.Prelude.{◌≡◌, ◌≢◌, ℕ, suc, ◌+◌, ◌≤◌, ◌<◌, length, get_or}
-use Rattle.meaning.specs.Limits.{node_cells, FREE}
+use Rattle.meaning.specs.Limits.{node_cells, free_kind}
 use Rattle.meaning.specs.Lent.{Nodes, kind_of}
 use Rattle.store.specs.Store.{Store}
 use Rattle.paths.specs.Paths.{Made, Source, leaf_with, branch_with, leaf_cut, branch_cut}
@@ -15,7 +15,7 @@ pub record Step (s : Nodes) (c : Source) (b : ℕ) : Type 0 where
 
 -- the children of a branch are in use
 abbrev pub Linked : Nodes → Source → Type 0
-Linked s c = (i : ℕ) → i < c.used → kind_of s (get_or c.cells i 0) ≢ FREE
+Linked s c = (i : ℕ) → i < c.used → kind_of s (get_or c.cells i 0) ≢ free_kind
 
 -- what is made of a store by taking so many nodes
 pub data Climb (s : Store) : (taken : ℕ) → Made → Type 0 where

@@ -1,6 +1,6 @@
 -- What is right about a copied way, whatever it holds.
 use Rattle.std.specs.Prelude.{◌≡◌, ◌≢◌, List, ℕ, ◌+◌, ◌<◌, get_or}
-use Rattle.meaning.specs.Limits.{node_cells, FREE}
+use Rattle.meaning.specs.Limits.{node_cells, free_kind}
 use Rattle.meaning.specs.Lent.{Nodes, kind_of, used_of, cell_of}
 use Rattle.cells.specs.Cells.{cells_of}
 use Rattle.store.specs.Store.{Store}
@@ -23,5 +23,5 @@ pub record Copied (s : Store) (taken k : ℕ) (r : Made) : Type 0 where
   pub order : r.store.order ≡ s.order
   pub free : r.store.free + taken ≡ s.free
   -- the node was free, and is in use
-  pub fresh : kind_of s.nodes r.node ≡ FREE
-  pub standing : kind_of r.store.nodes r.node ≢ FREE
+  pub fresh : kind_of s.nodes r.node ≡ free_kind
+  pub standing : kind_of r.store.nodes r.node ≢ free_kind

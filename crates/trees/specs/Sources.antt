@@ -1,6 +1,6 @@
 -- What a step copies: a node that stands, or none.
 use Rattle.std.specs.Prelude.{◌≡◌, ◌≢◌, Bool, true, false, List, ℕ, suc, ◌+◌, ◌-◌, ◌*◌, ◌^◌, ◌≤◌, ◌<◌, min, length, get_or}
-use Rattle.meaning.specs.Limits.{node_cells, FREE}
+use Rattle.meaning.specs.Limits.{node_cells, free_kind}
 use Rattle.meaning.specs.Lent.{Nodes, kind_of, used_of, cell_of}
 use Rattle.meaning.specs.Shape.{degree}
 use Rattle.meaning.specs.Trees.{Shaped}
@@ -12,7 +12,7 @@ Spare a u = (i : ℕ) → u ≤ i → i < node_cells → get_or a i 0 ≡ 0
 
 -- those of every leaf and branch are
 abbrev pub Tidy : Nodes → Type 0
-Tidy s = (n i : ℕ) → kind_of s n ≢ FREE → used_of s n ≤ i → i < node_cells → cell_of s n i ≡ 0
+Tidy s = (n i : ℕ) → kind_of s n ≢ free_kind → used_of s n ≤ i → i < node_cells → cell_of s n i ≡ 0
 
 -- node n of height h holds m elements, or is not there and holds none
 abbrev pub Found : Nodes → (bits h : ℕ) → (there : Bool) → (m n : ℕ) → Type 0

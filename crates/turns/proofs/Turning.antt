@@ -8,7 +8,7 @@ use native.Mathlib.Omega.{arith}
 use lib.Dec.{ltb, eqb}
 use lib.ListN.{get_or}
 use borrow.Author.Tests.{eq-eqb, ne_eqb, ltb-true}
-use Rattle.meaning.specs.Limits.{parties, party_walks, DONE}
+use Rattle.meaning.specs.Limits.{parties, party_walks, done_number}
 use Rattle.meaning.specs.Lent.{VersionRecord, WalkSlices}
 use Rattle.meaning.specs.Frames.{Frame}
 use Rattle.meaning.specs.Operations.{op_of, giver, taker}
@@ -45,11 +45,11 @@ module _ (ws : WalkSlices) (f : Frame) (v w : VersionRecord) where
       ∙ ap (λ (x : Bool). first_of (entry_checks (op_of f) f (standing (eqb v.live 1) (eqb w.live 1) (is_open_at ws.numbers (giver f) f.slot) x))) opened)
 
   module _ (s : Store) (n : ℕ) (told : n ≡ entry_number ws f v w) where
-    pub turn-refuses : (old : Version) (r : Served) → n ≢ DONE → r ≡ refused_with n s.free old
+    pub turn-refuses : (old : Version) (r : Served) → n ≢ done_number → r ≡ refused_with n s.free old
         → with_walks (acted_of (record { nodes = s.nodes; counts = s.counts; order = s.order; free = r.free }) r) ws ≡ turn s ws f v w (record_of old)
     unfolding turn refused
-    turn-refuses old r h t = rw (← told, ne_eqb n DONE h, t)
+    turn-refuses old r h t = rw (← told, ne_eqb n done_number h, t)
 
-    pub turn-acts : (old : VersionRecord) (a : WalkActed) → n ≡ DONE → a ≡ act s ws f v w old → a ≡ turn s ws f v w old
+    pub turn-acts : (old : VersionRecord) (a : WalkActed) → n ≡ done_number → a ≡ act s ws f v w old → a ≡ turn s ws f v w old
     unfolding turn
-    turn-acts old a z p = rw (← told, eq-eqb n DONE z) p
+    turn-acts old a z p = rw (← told, eq-eqb n done_number z) p

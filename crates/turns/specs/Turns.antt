@@ -1,6 +1,6 @@
 -- One frame on the records that it names.
 use Rattle.std.specs.Prelude.{◌≡◌, Bool, false, cond, ◌&&◌, List, ℕ, ◌+◌, ◌*◌, ◌%◌, ltb, eqb}
-use Rattle.meaning.specs.Limits.{parties, party_slots, party_walks, RELEASE, DONE}
+use Rattle.meaning.specs.Limits.{parties, party_slots, party_walks, release_code, done_number}
 use Rattle.meaning.specs.Lent.{VersionRecord, WalkSlices}
 use Rattle.meaning.specs.Frames.{Frame}
 use Rattle.meaning.specs.Operations.{op_of, giver, taker}
@@ -19,7 +19,7 @@ place_of p n = party_slots * (p % parties) + n % party_slots
 
 -- which of the two places a frame may change
 abbrev pub changed_in : Frame → (source target : ℕ) → ℕ
-changed_in f s t = cond (eqb f.operation RELEASE) s t
+changed_in f s t = cond (eqb f.operation release_code) s t
 
 -- a walk that is not there is closed
 abbrev pub is_open_at : (numbers : List ℕ) → (party walk : ℕ) → Bool
@@ -34,9 +34,9 @@ abbrev pub entry_number : WalkSlices → Frame → (source target : VersionRecor
 entry_number ws f v w = first_of (entry_checks (op_of f) f (standing_in ws f v w))
 
 abbrev pub Turnable : Store → WalkSlices → Frame → (source target : VersionRecord) → Type 0
-Turnable s ws f v w = entry_number ws f v w ≡ DONE → Serviceable s ws f v w
+Turnable s ws f v w = entry_number ws f v w ≡ done_number → Serviceable s ws f v w
 
 unfoldable pub turn : Store → WalkSlices → Frame → (source target old : VersionRecord) → WalkActed
 turn s ws f v w old =
     let n = entry_number ws f v w in
-    cond (eqb n DONE) (act s ws f v w old) (with_walks (acted s old (refused n)) ws)
+    cond (eqb n done_number) (act s ws f v w old) (with_walks (acted s old (refused n)) ws)

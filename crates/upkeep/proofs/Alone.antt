@@ -9,7 +9,7 @@ use native.Mathlib.Omega.{arith}
 use lib.Dec.{eqb}
 use lib.ListN.{get_or, replicate}
 use borrow.Author.Tests.{eqb-false}
-use Rattle.meaning.specs.Limits.{FREE, node_cells}
+use Rattle.meaning.specs.Limits.{free_kind, node_cells}
 use Rattle.meaning.specs.Lent.{Nodes, kind_of, VersionRecord}
 use Rattle.meaning.specs.Shape.{degree, is_root_full}
 use Rattle.meaning.specs.Trees.{Shaped, height_of}
@@ -41,7 +41,7 @@ use Rattle.upkeep.proofs.Shares.{at_first, none-raised, source-within, assoc-wit
 
 -- what a node of t reaches was free in s, or the source reached it
 abbrev pub Alone : (s t : Nodes) → (source result : ℕ) → Type 0
-Alone s t source result = (n : ℕ) → Reached t (result ∷ []) n → (kind_of s n ≡ FREE) ⊎ Reached s (source ∷ []) n
+Alone s t source result = (n : ℕ) → Reached t (result ∷ []) n → (kind_of s n ≡ free_kind) ⊎ Reached s (source ∷ []) n
 
 module _ (s : Store) (rs : List ℕ) (k : Kept s rs) (v : VersionRecord) (live : Live s.nodes v) where
   abbrev P : ℕ → Type 0
@@ -50,11 +50,11 @@ module _ (s : Store) (rs : List ℕ) (k : Kept s rs) (v : VersionRecord) (live :
   root_in : P v.root
   root_in = by_root (occurs-first v.root [])
 
-  root-used : kind_of s.nodes v.root ≢ FREE
+  root-used : kind_of s.nodes v.root ≢ free_kind
   root-used = shaped-used s.nodes v.bits (height_of v) v.length v.root live.shape
 
-  reached-used : {n : ℕ} → P n → kind_of s.nodes n ≢ FREE
-  reached-used {n} (by_root l) = each-occurs (λ x. kind_of s.nodes x ≢ FREE) (v.root ∷ []) n (root-used, tt) l
+  reached-used : {n : ℕ} → P n → kind_of s.nodes n ≢ free_kind
+  reached-used {n} (by_root l) = each-occurs (λ x. kind_of s.nodes x ≢ free_kind) (v.root ∷ []) n (root-used, tt) l
   reached-used (by_cell {m = m} r l) = k.celled m _ l
 
   closed : (x m : ℕ) → P x → 1 ≤ cell_links s.nodes x m → P m

@@ -11,7 +11,7 @@ use lib.Dec.{ltb, eqb}
 use lib.ListN.{get_or, set, replicate}
 use lib.Seq.{slice}
 use borrow.Author.Tests.{ltb-true, ne_eqb}
-use Rattle.meaning.specs.Limits.{node_cells, FREE}
+use Rattle.meaning.specs.Limits.{node_cells, free_kind}
 use Rattle.meaning.specs.Counting.{bit, occurrences, divides}
 use Rattle.meaning.specs.Lent.{kind_of, cell_of}
 use Rattle.meaning.specs.Shape.{degree, bucket}
@@ -54,7 +54,7 @@ module _ (P : ℕ → Type 0) (s : Store) (closed : (x m : ℕ) → P x → 1 �
       rw (q.cell i l) (closed n (cell_of s.nodes n i) (own refl) (child-linked s.nodes n i p.kind l))
   source-within bits h false m n legal p own i l = absurd (lt_irrefl zero (omega arith))
 
-  pub none-raised : (n : ℕ) → 1 ≤ occurrences n [] → kind_of s.nodes n ≢ FREE
+  pub none-raised : (n : ℕ) → 1 ≤ occurrences n [] → kind_of s.nodes n ≢ free_kind
   unfolding occurrences
   none-raised n l = absurd (lt_irrefl zero (omega arith))
 
@@ -67,12 +67,12 @@ module _ (P : ℕ → Type 0) (s : Store) (closed : (x m : ℕ) → P x → 1 �
       let copied : Copied s taken 0 r = climb-copies s 0 climb (kept-stocks k (taken + 0) (omega arith)) in
       branch-within P s.nodes r.store (r.node ∷ rs) (others c.cells c.used b) below (omega (arith, copied.free)) (max c.used (b + 1)) (set c.cells b r.node)
       (put-filled s.nodes c b r.node p k.spare)
-      (λ n m. use-stays s.nodes r.store.nodes n copied.extends (each-occurs (λ x. kind_of s.nodes x ≢ FREE) (others c.cells c.used b) n (others-used s.nodes c b l linked) m))
+      (λ n m. use-stays s.nodes r.store.nodes n copied.extends (each-occurs (λ x. kind_of s.nodes x ≢ free_kind) (others c.cells c.used b) n (others-used s.nodes c b l linked) m))
       w
       (λ m o. pick m (ℕ_discrete r.node m) copied.fresh
       (rw (put-occurs c.cells c.used b r.node m l (omega (arith, p.room, p.whole)) (omega (arith, p.small, p.whole))) at o))
     where
-      pick : (m : ℕ) → Dec (r.node ≡ m) → kind_of s.nodes r.node ≡ FREE → 1 ≤ occurrences m (others c.cells c.used b) + bit (eqb r.node m) → (kind_of s.nodes m ≡ FREE) ⊎ P m
+      pick : (m : ℕ) → Dec (r.node ≡ m) → kind_of s.nodes r.node ≡ free_kind → 1 ≤ occurrences m (others c.cells c.used b) + bit (eqb r.node m) → (kind_of s.nodes m ≡ free_kind) ⊎ P m
       pick m (yes e) fresh o = inl (rw e at fresh)
       pick m (no f) fresh o =
           inr (each-occurs P (others c.cells c.used b) m (each-other P c.cells c.used b l (λ i j g. own i j)) (omega (arith, rw (ne_eqb r.node m f) at o)))
@@ -99,7 +99,7 @@ module _ (P : ℕ → Type 0) (s : Store) (closed : (x m : ℕ) → P x → 1 �
       (assoc-within bits h (ltb b c.used) _ (get_or c.cells b 0) index v legal child (omega arith) (omega arith) (λ e. kids b (ltb-true b c.used e)))
 
   -- a new root over the old one
-  pub grow-within : (bits h root index v : ℕ) → LegalBits bits → kind_of s.nodes root ≢ FREE → P root → index ≡ degree bits ^ suc h → suc (suc h) ≤ s.free
+  pub grow-within : (bits h root index v : ℕ) → LegalBits bits → kind_of s.nodes root ≢ free_kind → P root → index ≡ degree bits ^ suc h → suc (suc h) ≤ s.free
       → Within P s.nodes (grow s bits h root index v).store.nodes
   unfolding grow
   grow-within bits h root index v legal f own full enough =
@@ -118,7 +118,7 @@ module _ (P : ℕ → Type 0) (s : Store) (closed : (x m : ℕ) → P x → 1 �
   unfolding branch_cut
   branch_less c b enough p u linked own =
       branch-within P s.nodes s rs (slice 0 b c.cells) k enough b (set c.cells b 0) (cut-filled s.nodes c b p (omega arith) k.spare)
-      (λ n m. each-occurs (λ x. kind_of s.nodes x ≢ FREE) (slice 0 b c.cells) n (slice-used s.nodes c b (omega arith) linked) m)
+      (λ n m. each-occurs (λ x. kind_of s.nodes x ≢ free_kind) (slice 0 b c.cells) n (slice-used s.nodes c b (omega arith) linked) m)
       at_first
       (λ m o. inr (each-occurs P (slice 0 b c.cells) m (each-slice P 0 b c.cells (λ i j g. own i (omega arith))) (omega (arith, cut-occurs c.cells b 0 m))))
 

@@ -1,11 +1,10 @@
 -- What each call answers and makes of the store: refused with nothing changed, or done.
 use Rattle.std.specs.Prelude.{cond, not, ◌&&◌, List, ℕ, ◌-◌, leb, ltb, eqb}
-use Rattle.meaning.specs.Limits.{max_bits, max_length, DONE, BAD-BITS, NOTHING-THERE, FULL, NO-NODES}
+use Rattle.meaning.specs.Limits.{max_bits, max_length, done_number, bad_bits_number, nothing_there_number, full_number, no_nodes_number}
 use Rattle.meaning.specs.Lent.{VersionRecord}
 use Rattle.meaning.specs.Costs.{new_cost, set_cost, push_cost, drop_cost}
 use Rattle.store.specs.Store.{Store, store_of}
 use Rattle.paths.specs.Edits as edits
-use Rattle.vector.specs.declared.Edit.{Edit}
 use Rattle.vector.specs.declared.Edited.{Edited}
 use Rattle.vector.specs.declared.Edited.TheVariants.{Done, BadBits, NothingThere, Full, NoNodes}
 
@@ -13,11 +12,11 @@ use Rattle.vector.specs.declared.Edited.TheVariants.{Done, BadBits, NothingThere
 
 -- the number of document 01
 abbrev pub number_of : Edited → ℕ
-number_of (Done e) = DONE
-number_of BadBits = BAD-BITS
-number_of NothingThere = NOTHING-THERE
-number_of Full = FULL
-number_of NoNodes = NO-NODES
+number_of (Done e) = done_number
+number_of BadBits = bad_bits_number
+number_of NothingThere = nothing_there_number
+number_of Full = full_number
+number_of NoNodes = no_nodes_number
 
 -- how many nodes are free after a call
 abbrev pub free_after : (free : ℕ) → Edited → ℕ

@@ -1,4 +1,3 @@
-use borrow.Author.Rules.{rules}
 use Rattle.compare.proofs.Answers.{alike-found}
 use Rattle.compare.proofs.alike_until.Goals as goal
 

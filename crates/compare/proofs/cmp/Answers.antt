@@ -1,8 +1,7 @@
-use Prim.Native.Nat.{◌-◌, ◌≤◌, ◌<◌}
+use Prim.Native.Nat.{◌≤◌, ◌<◌}
 use mathlib.Core.Path.{◌∙◌}
 use native.Mathlib.Omega.{arith}
-use borrow.Author.Rules.{rules}
-use Rattle.compare.proofs.Answers.{SameFrom, item-at, answers-less, answers-greater, goes_on, alike-goes-on, answers-by-length}
+use Rattle.compare.proofs.Answers.{item-at, answers-less, answers-greater, goes_on, alike-goes-on, answers-by-length}
 use Rattle.compare.proofs.cmp.Goals as goal
 
 pub loop-i-init : goal.loop-i-init

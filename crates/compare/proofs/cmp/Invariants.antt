@@ -1,8 +1,5 @@
-use Prim.Native.Nat.{◌-◌, ◌≤◌, ◌<◌}
-use mathlib.Core.Path.{◌∙◌}
-use native.Mathlib.Omega.{arith}
-use borrow.Author.Rules.{rules}
-use Rattle.compare.proofs.Answers.{SameFrom, item-at, answers-less, answers-greater, goes_on, alike-goes-on, answers-by-length}
+use Prim.Native.Nat.{◌-◌, ◌≤◌}
+use Rattle.compare.proofs.Answers.{SameFrom}
 use Rattle.compare.proofs.cmp.Given as goal
 
 abbrev pub invariant-loop-i : goal.invariant-loop-i

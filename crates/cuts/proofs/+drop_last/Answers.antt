@@ -3,8 +3,6 @@ use native.Mathlib.Nat.{pos_of_ne-zero}
 use mathlib.Core.Path.{refl, sym, ◌∙◌}
 use Rattle.paths.proofs.Ways.{ready-makes}
 use Rattle.cuts.proofs.Cutting.{last-cells, ready-shares, leaf-drop, cut-drop, drop-lower, drop-shares, branch-drop}
-use borrow.Author.Rules.{rules}
-use Prim.Native.Nat.{ℕ, ◌<◌}
 use Rattle.cuts.proofs.+drop_last.Goals as goal
 
 pub source_of-c-requires : goal.source_of-c-requires

@@ -1,5 +1,4 @@
 use Rattle.cuts.proofs.Cutting.{first_cell, root-compressed}
-use borrow.Author.Rules.{rules}
 use Rattle.cuts.proofs.compress_root.Goals as goal
 
 pub raise-requires : goal.raise-requires

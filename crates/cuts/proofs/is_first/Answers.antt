@@ -1,5 +1,4 @@
 use Rattle.cuts.proofs.Cutting.{shift-some, first-computed}
-use borrow.Author.Rules.{rules}
 use Rattle.cuts.proofs.is_first.Goals as goal
 
 pub nonzero_rem-result : goal.nonzero_rem-result

@@ -1,5 +1,4 @@
 use Rattle.paths.proofs.Steps.{leaf-cut}
-use borrow.Author.Rules.{rules}
 use Rattle.cuts.proofs.leaf_cut.Goals as goal
 
 pub returns : goal.returns

@@ -1,5 +1,4 @@
 use Rattle.cuts.proofs.Cutting.{loses-computed}
-use borrow.Author.Rules.{rules}
 use Rattle.cuts.proofs.loses_root.Goals as goal
 
 pub returns : goal.returns

@@ -1,7 +1,6 @@
 use native.Mathlib.Nat.{lt_irrefl}
 use native.Mathlib.Omega.{arith}
 use Rattle.index.specs.Index.{Within, InUse}
-use borrow.Author.Rules.{rules}
 use Rattle.index.proofs.above.Goals as goal
 
 pub returns-then-u-i : goal.returns-then-u-i

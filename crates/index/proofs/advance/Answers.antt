@@ -1,5 +1,4 @@
 use Rattle.index.proofs.IndexLaws.{advanced-by}
-use borrow.Author.Rules.{rules}
 use Rattle.index.proofs.advance.Goals as goal
 
 pub returns-then-back : goal.returns-then-back

@@ -1,5 +1,4 @@
 use Rattle.index.proofs.IndexLaws.{at-is}
-use borrow.Author.Rules.{rules}
 use Rattle.index.proofs.at.Goals as goal
 
 pub returns : goal.returns

@@ -1,5 +1,4 @@
 use Rattle.index.proofs.IndexLaws.{left_below, left-above}
-use borrow.Author.Rules.{rules}
 use Rattle.index.proofs.cells_left.Goals as goal
 
 pub returns-then-back : goal.returns-then-back

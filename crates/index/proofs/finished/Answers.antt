@@ -1,5 +1,4 @@
 use Rattle.index.proofs.IndexLaws.{finished-back, finished-fore}
-use borrow.Author.Rules.{rules}
 use Rattle.index.proofs.finished.Goals as goal
 
 pub returns-then-back : goal.returns-then-back

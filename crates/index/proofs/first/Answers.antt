@@ -1,5 +1,4 @@
 use Rattle.index.proofs.IndexLaws.{first_by, first-fore}
-use borrow.Author.Rules.{rules}
 use Rattle.index.proofs.first.Goals as goal
 
 pub returns-then-back : goal.returns-then-back

@@ -1,5 +1,4 @@
 use Rattle.index.proofs.IndexLaws.{last_fits, last-is}
-use borrow.Author.Rules.{rules}
 use Rattle.index.proofs.last.Goals as goal
 
 pub returns : goal.returns

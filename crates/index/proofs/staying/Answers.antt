@@ -1,6 +1,5 @@
 use native.Mathlib.Nat.{lt_irrefl}
 use Rattle.index.proofs.IndexLaws.{place-fits, not_first, stays}
-use borrow.Author.Rules.{rules}
 use Rattle.index.proofs.staying.Goals as goal
 
 pub returns-then-index-le0 : goal.returns-then-index-le0

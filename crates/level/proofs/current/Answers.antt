@@ -1,6 +1,5 @@
 use mathlib.Core.Path.{refl}
 use Rattle.level.proofs.LevelLaws.{current-is}
-use borrow.Author.Rules.{rules}
 use Rattle.level.proofs.current.Goals as goal
 
 pub returns : goal.returns

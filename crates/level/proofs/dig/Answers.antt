@@ -1,5 +1,4 @@
 use Rattle.level.proofs.LevelLaws.{dig-is}
-use borrow.Author.Rules.{rules}
 use Rattle.level.proofs.dig.Goals as goal
 
 pub returns : goal.returns

@@ -1,5 +1,4 @@
 use Rattle.level.proofs.Passing.{pass-is}
-use borrow.Author.Rules.{rules}
 use Rattle.level.proofs.pass.Goals as goal
 
 pub along-e-requires : goal.along-e-requires

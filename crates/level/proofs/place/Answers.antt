@@ -1,6 +1,5 @@
 use mathlib.Core.Path.{refl}
 use Rattle.level.proofs.Passing.{place_is}
-use borrow.Author.Rules.{rules}
 use Rattle.level.proofs.place.Goals as goal
 
 pub returns : goal.returns

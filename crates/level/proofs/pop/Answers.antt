@@ -1,6 +1,5 @@
 use mathlib.Core.Path.{refl}
 use Rattle.level.specs.Level.{popped}
-use borrow.Author.Rules.{rules}
 use Rattle.level.proofs.pop.Goals as goal
 
 pub returns : goal.returns

@@ -1,5 +1,4 @@
 use Rattle.level.proofs.LevelLaws.{push-is}
-use borrow.Author.Rules.{rules}
 use Rattle.level.proofs.push.Goals as goal
 
 pub returns : goal.returns

@@ -1,6 +1,5 @@
 use mathlib.Core.Path.{refl}
 use Rattle.level.proofs.Passing.{stays_at}
-use borrow.Author.Rules.{rules}
 use Rattle.level.proofs.staying.Goals as goal
 
 pub returns : goal.returns

@@ -1,6 +1,5 @@
 use mathlib.Core.Path.{refl}
 use Rattle.level.proofs.LevelLaws.{step_is}
-use borrow.Author.Rules.{rules}
 use Rattle.level.proofs.step.Goals as goal
 
 pub returns : goal.returns

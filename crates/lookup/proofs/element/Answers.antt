@@ -1,4 +1,3 @@
-use borrow.Author.Rules.{rules}
 use Rattle.lookup.proofs.Found.{element-found}
 use Rattle.lookup.proofs.element.Goals as goal
 

@@ -1,5 +1,4 @@
 use Rattle.lookup.proofs.Found.{got-found, got-nothing}
-use borrow.Author.Rules.{rules}
 use Rattle.lookup.proofs.get.Goals as goal
 
 pub returns-then-index-v : goal.returns-then-index-v

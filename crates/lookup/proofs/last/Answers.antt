@@ -1,7 +1,6 @@
 use Prim.Native.Nat.{◌-◌}
 use native.Mathlib.Omega.{arith}
 use Rattle.lookup.proofs.Found.{got-nothing}
-use borrow.Author.Rules.{rules}
 use Rattle.lookup.proofs.last.Goals as goal
 
 pub returns-then-v-eq0 : goal.returns-then-v-eq0

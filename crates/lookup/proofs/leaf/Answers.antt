@@ -1,10 +1,6 @@
 use mathlib.Core.Path.{refl}
-use Prim.Native.Nat.{◌^◌, ◌<◌}
 use native.Mathlib.Omega.{arith}
-use borrow.Author.Rules.{rules}
-use Rattle.meaning.specs.Limits.{word_width}
-use Rattle.lookup.specs.Lookup.{leaf_in}
-use Rattle.lookup.proofs.Found.{Descending, shift-lasts, level-passed, leaf-reached}
+use Rattle.lookup.proofs.Found.{shift-lasts, level-passed, leaf-reached}
 use Rattle.lookup.proofs.leaf.Goals as goal
 
 -- `lookup::leaf` meets its contract: at each turn the shift is that of the height of the node that it has come to.

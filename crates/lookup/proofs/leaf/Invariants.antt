@@ -1,10 +1,7 @@
-use mathlib.Core.Path.{refl}
 use Prim.Native.Nat.{◌^◌, ◌<◌}
-use native.Mathlib.Omega.{arith}
-use borrow.Author.Rules.{rules}
 use Rattle.meaning.specs.Limits.{word_width}
 use Rattle.lookup.specs.Lookup.{leaf_in}
-use Rattle.lookup.proofs.Found.{Descending, shift-lasts, level-passed, leaf-reached}
+use Rattle.lookup.proofs.Found.{Descending}
 use Rattle.lookup.proofs.leaf.Given as goal
 
 abbrev pub invariant-loop-shift : goal.invariant-loop-shift

@@ -2,7 +2,6 @@ use mathlib.Core.Path.{refl, sym}
 use Prim.Native.Nat.{◌+◌, ◌*◌}
 use native.Mathlib.Omega.{arith}
 use lib.ListN.{get_or-eq_default}
-use borrow.Author.Rules.{rules}
 use Rattle.meaning.specs.Limits.{node_cells}
 use Rattle.lookup.proofs.wide_cell_at.Goals as goal
 

@@ -2,8 +2,6 @@ use native.Mathlib.Omega.{arith}
 use native.Mathlib.Nat.{pos_of_ne-zero}
 use mathlib.Core.Path.{refl}
 use Rattle.paths.proofs.Ways.{way-cells, ready-makes, leaf-assoc, assoc-lower, assoc-shares, branch-assoc}
-use borrow.Author.Rules.{rules}
-use Prim.Native.Nat.{ℕ, ◌<◌}
 use Rattle.paths.proofs.+assoc.Goals as goal
 
 pub source_of-c-requires : goal.source_of-c-requires

@@ -1,6 +1,5 @@
 use mathlib.Core.Path.{refl}
 use Rattle.paths.proofs.Ways.{ready-less, grow-shares, root-grown}
-use borrow.Author.Rules.{rules}
 use Rattle.paths.proofs.grow.Goals as goal
 
 pub assoc-r-requires : goal.assoc-r-requires

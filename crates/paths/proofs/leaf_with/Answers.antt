@@ -1,5 +1,4 @@
 use Rattle.paths.proofs.Steps.{leaf-made}
-use borrow.Author.Rules.{rules}
 use Rattle.paths.proofs.leaf_with.Goals as goal
 
 pub returns : goal.returns

@@ -1,5 +1,4 @@
 use Rattle.paths.proofs.Steps.{empty-made}
-use borrow.Author.Rules.{rules}
 use Rattle.paths.proofs.new_empty_leaf.Goals as goal
 
 pub returns : goal.returns

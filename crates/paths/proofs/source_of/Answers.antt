@@ -1,5 +1,4 @@
 use Rattle.paths.proofs.Steps.{source-there, source-new}
-use borrow.Author.Rules.{rules}
 use Rattle.paths.proofs.source_of.Goals as goal
 
 pub cells_of-a-requires : goal.cells_of-a-requires

@@ -1,5 +1,4 @@
 use Rattle.store.proofs.Making.{sized-place, top_below, written-makes}
-use borrow.Author.Rules.{rules}
 use Rattle.store.proofs.make.Goals as goal
 
 pub write_node-requires : goal.write_node-requires

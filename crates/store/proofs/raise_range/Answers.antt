@@ -1,9 +1,5 @@
-use mathlib.Core.Path.{◌≡◌, sym, ◌∙◌}
-use Prim.Native.Nat.{◌-◌, ◌≤◌}
-use lib.ListN.{length}
-use lib.Seq.{slice}
-use Rattle.store.specs.Store.{raises}
-use Rattle.store.specs.Ready.{Room}
+use mathlib.Core.Path.{sym, ◌∙◌}
+use Prim.Native.Nat.{◌-◌}
 use Rattle.store.proofs.Raising.{below_at, room-less, room-raise, raises-turn, raises-none}
 use borrow.Author.Rules.{rules}
 use Rattle.store.proofs.raise_range.Goals as goal

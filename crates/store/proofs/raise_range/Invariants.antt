@@ -1,11 +1,9 @@
-use mathlib.Core.Path.{◌≡◌, sym, ◌∙◌}
+use mathlib.Core.Path.{◌≡◌}
 use Prim.Native.Nat.{◌-◌, ◌≤◌}
 use lib.ListN.{length}
 use lib.Seq.{slice}
 use Rattle.store.specs.Store.{raises}
 use Rattle.store.specs.Ready.{Room}
-use Rattle.store.proofs.Raising.{below_at, room-less, room-raise, raises-turn, raises-none}
-use borrow.Author.Rules.{rules}
 use Rattle.store.proofs.raise_range.Given as goal
 
 abbrev pub invariant-loop-i : goal.invariant-loop-i

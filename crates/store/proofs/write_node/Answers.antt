@@ -1,7 +1,6 @@
 use mathlib.Core.Path.{refl}
 use Rattle.store.specs.Store.{nodes_of}
 use Rattle.store.proofs.Making.{node-written}
-use borrow.Author.Rules.{rules}
 use Rattle.store.proofs.write_node.Goals as goal
 
 pub returns : goal.returns

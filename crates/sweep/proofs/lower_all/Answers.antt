@@ -1,11 +1,6 @@
-use mathlib.Core.Path.{◌≡◌, refl, sym, ◌∙◌}
-use Prim.Native.Nat.{◌+◌, ◌-◌, ◌≤◌}
-use lib.ListN.{length, take}
-use lib.Seq.{slice}
-use Rattle.meaning.specs.Lent.{Nodes}
+use mathlib.Core.Path.{refl, sym, ◌∙◌}
+use Prim.Native.Nat.{◌-◌}
 use Rattle.store.proofs.Raising.{below_at}
-use Rattle.sweep.specs.Sweep.{lowers}
-use Rattle.sweep.specs.Ready.{store_on, live}
 use Rattle.sweep.proofs.Lowering.{lowered-room, lowers-all, lowers-turn, lowers-none}
 use borrow.Author.Rules.{rules}
 use Rattle.sweep.proofs.lower_all.Goals as goal

@@ -1,7 +1,6 @@
 use native.Mathlib.Omega.{arith}
 use Rattle.sweep.specs.Ready.{store_on}
 use Rattle.sweep.proofs.Lowering.{live-some, lower-none, lower_last, lower-more}
-use borrow.Author.Rules.{rules}
 use Rattle.sweep.proofs.lower_one.Goals as goal
 
 pub returns-then-count-eq0 : goal.returns-then-count-eq0

@@ -1,11 +1,7 @@
-use mathlib.Core.Path.{◌≡◌, refl, ◌∙◌}
-use Prim.Native.Nat.{◌-◌, ◌<◌}
+use mathlib.Core.Path.{refl, ◌∙◌}
 use native.Mathlib.Omega.{arith}
-use lib.ListN.{length, get_or}
 use Rattle.store.specs.Store.{store_of}
-use Rattle.sweep.specs.Sweep.{sweep}
-use Rattle.sweep.proofs.Sweeping.{Sweeping, lowered-sweeping, next-node, sweep-turn, swept-release}
-use borrow.Author.Rules.{rules}
+use Rattle.sweep.proofs.Sweeping.{lowered-sweeping, next-node, sweep-turn, swept-release}
 use Rattle.sweep.proofs.release.Goals as goal
 
 pub lower_one-f-requires : goal.lower_one-f-requires

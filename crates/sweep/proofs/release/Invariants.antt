@@ -1,11 +1,9 @@
-use mathlib.Core.Path.{◌≡◌, refl, ◌∙◌}
-use Prim.Native.Nat.{◌-◌, ◌<◌}
-use native.Mathlib.Omega.{arith}
-use lib.ListN.{length, get_or}
+use mathlib.Core.Path.{◌≡◌}
+use Prim.Native.Nat.{◌-◌}
+use lib.ListN.{length}
 use Rattle.store.specs.Store.{store_of}
 use Rattle.sweep.specs.Sweep.{sweep}
-use Rattle.sweep.proofs.Sweeping.{Sweeping, lowered-sweeping, next-node, sweep-turn, swept-release}
-use borrow.Author.Rules.{rules}
+use Rattle.sweep.proofs.Sweeping.{Sweeping}
 use Rattle.sweep.proofs.release.Given as goal
 
 abbrev pub invariant-loop-at : goal.invariant-loop-at

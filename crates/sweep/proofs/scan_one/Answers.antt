@@ -1,7 +1,6 @@
 use native.Mathlib.Omega.{arith}
 use Rattle.sweep.specs.Sweep.{vacate}
 use Rattle.sweep.proofs.Sweeping.{branch-children, scan-branch, scan-other}
-use borrow.Author.Rules.{rules}
 use Rattle.sweep.proofs.scan_one.Goals as goal
 
 pub overflow_cast-len : goal.overflow_cast-len

@@ -1,5 +1,4 @@
 use Rattle.vector.proofs.Editing.{root-shared}
-use borrow.Author.Rules.{rules}
 use Rattle.vector.proofs.clone.Goals as goal
 
 pub returns : goal.returns

@@ -1,5 +1,4 @@
 use Rattle.vector.proofs.Answering.{made-done}
-use borrow.Author.Rules.{rules}
 use Rattle.vector.proofs.done.Goals as goal
 
 -- TODO sub-t7

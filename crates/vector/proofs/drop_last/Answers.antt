@@ -1,7 +1,6 @@
 use Rattle.vector.proofs.Editing.{drop-can, drop-fell}
 use Rattle.vector.proofs.Answering.{drop-nothing, drop-short, drop-done}
 use Rattle.records.specs.Records.{record_of}
-use borrow.Author.Rules.{rules}
 use Rattle.vector.proofs.drop_last.Goals as goal
 
 pub returns-then-v-eq0 : goal.returns-then-v-eq0

@@ -3,7 +3,6 @@ use native.Mathlib.Omega.{arith}
 use mathlib.Core.Path.{sym, ◌∙◌}
 use Rattle.records.specs.Records.{record_of}
 use Rattle.paths.proofs.Ways.{ready-makes}
-use borrow.Author.Rules.{rules}
 use Rattle.vector.proofs.dropped.Goals as goal
 
 pub new_empty_leaf-requires : goal.new_empty_leaf-requires

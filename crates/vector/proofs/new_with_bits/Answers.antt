@@ -1,6 +1,5 @@
 use Rattle.vector.proofs.Editing.{new-can, new-fell}
 use Rattle.vector.proofs.Answering.{new-bad, new-short, new-done}
-use borrow.Author.Rules.{rules}
 use mathlib.Core.Path.{ap}
 use mathlib.Core.Bool.{not}
 use Rattle.vector.proofs.new_with_bits.Goals as goal

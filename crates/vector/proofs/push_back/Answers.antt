@@ -2,7 +2,6 @@ use Rattle.vector.proofs.Editing.{push-height, push-can, push-fell}
 use Rattle.vector.proofs.Answering.{push-full, push-short, push-done}
 use native.Mathlib.Omega.{arith}
 use Rattle.records.specs.Records.{record_of}
-use borrow.Author.Rules.{rules}
 use Rattle.vector.proofs.push_back.Goals as goal
 
 pub returns-then-v-ge-MAX_LENGTH : goal.returns-then-v-ge-MAX_LENGTH

@@ -1,6 +1,5 @@
 use Rattle.vector.proofs.Editing.{push-grown, push-made}
 use Rattle.records.specs.Records.{record_of}
-use borrow.Author.Rules.{rules}
 use Rattle.vector.proofs.pushed.Goals as goal
 
 pub grow-requires : goal.grow-requires

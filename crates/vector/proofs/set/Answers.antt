@@ -1,7 +1,6 @@
 use Rattle.vector.proofs.Editing.{set-ready, set-fell, set-made}
 use Rattle.vector.proofs.Answering.{set-nothing, set-short, set-done}
 use Rattle.records.specs.Records.{record_of}
-use borrow.Author.Rules.{rules}
 use Rattle.vector.proofs.set.Goals as goal
 
 pub returns-then-v-index : goal.returns-then-v-index

@@ -1,11 +1,5 @@
-use Prim.Native.Nat.{ℕ, ◌-◌, ◌≤◌, ◌<◌}
-use native.Mathlib.Nat.{lt_irrefl, pos_of_ne-zero}
-use native.Mathlib.Omega.{arith}
-use Rattle.meaning.specs.Limits.{word_width}
-use Rattle.lookup.proofs.Found.{shift-below}
+use Prim.Native.Nat.{◌-◌, ◌≤◌}
 use Rattle.compare.specs.Differences.{SameIn}
-use Rattle.compare.proofs.Spans.{end_after, end-within}
-use Rattle.compare.proofs.Ranges.{shared_same, none-differs, child-differs, child-goes-on}
 use Rattle.compare.proofs.differences.+first_difference.Given as goal
 
 abbrev pub decreases-first_difference : goal.decreases-first_difference

@@ -1,7 +1,6 @@
 use Prim.Native.Nat.{◌*◌, ◌^◌}
 use native.Mathlib.Nat.{div-le_self}
 use native.Mathlib.Omega.{arith}
-use borrow.Author.Rules.{rules}
 use Rattle.compare.proofs.Spans.{end-computed}
 use Rattle.compare.proofs.differences.child_end.Goals as goal
 

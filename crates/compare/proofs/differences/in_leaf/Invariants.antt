@@ -1,9 +1,5 @@
 use Prim.Native.Nat.{◌-◌, ◌≤◌}
-use native.Mathlib.Nat.{lt_irrefl}
-use native.Mathlib.Omega.{arith}
-use borrow.Author.Rules.{rules}
 use Rattle.compare.specs.Differences.{SameIn}
-use Rattle.compare.proofs.Ranges.{none-differs, leaf-differs, leaf-goes-on}
 use Rattle.compare.proofs.differences.in_leaf.Given as goal
 
 abbrev pub invariant-loop-i : goal.invariant-loop-i
