@@ -7,7 +7,6 @@ use Prim.Native.Nat.{ℕ, zero, ◌+◌, ◌-◌, ◌*◌, ◌≤◌, ◌<◌}
 use native.Mathlib.Nat.{lt_irrefl}
 use native.Mathlib.Omega.{arith}
 use lib.Dec.{eqb, leb}
-use lib.ListN.{length}
 use borrow.Author.Tests.{eqb-true, eqb-false, leb-true, eq-eqb, le-leb}
 use Rattle.meaning.specs.Limits.{branch_kind, max_bits, max_length, walk_levels}
 use Rattle.meaning.specs.Lent.{Nodes, kind_of, used_of, cell_of, VersionRecord, empty_record, WalkSlices, Level, WalkRecord, closed_record, walk_record}

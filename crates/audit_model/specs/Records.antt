@@ -1,5 +1,5 @@
 -- The version and walk records: empty and closed ones are 0, live and open ones are descended into, and a walk agrees with its numbers.
-use Rattle.std.specs.Prelude.{Bool, true, false, cond, ◌&&◌, ◌||◌, List, ℕ, zero, suc, ◌+◌, ◌-◌, ◌*◌, eqb, leb, ltb, ℤ, pos, negsuc, length, get_or}
+use Rattle.std.specs.Prelude.{Bool, true, false, cond, ◌&&◌, ◌||◌, List, ℕ, zero, suc, ◌+◌, ◌-◌, ◌*◌, eqb, leb, ltb, ℤ, pos, negsuc, get_or}
 use Rattle.meaning.specs.Limits.{node_cells, max_bits, max_length, walk_levels}
 use Rattle.meaning.specs.Lent.{Nodes, VersionRecord, WalkSlices, walk_record}
 use Rattle.meaning.specs.Shape.{bucket}

@@ -14,7 +14,6 @@ use Rattle.meaning.specs.WellFormed.{WellFormed}
 use Rattle.meaning.specs.Stands.{table_of}
 use Rattle.meaning.specs.Frames.{Frame}
 use Rattle.meaning.specs.Checks.{◌if◌, first_of}
-use Rattle.meaning.specs.Serve.{run}
 use Rattle.meaning.specs.Batch.{batch_checks, answer_bytes, outcome, batch}
 use Rattle.upkeep.proofs.Doors.{well-formed-runs}
 use Rattle.records.specs.declared.Version.{Version}

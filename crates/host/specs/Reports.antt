@@ -1,5 +1,5 @@
 -- What the exported calls report, and what the same calls promise of a table that was copied out of so many records.
-use Rattle.std.specs.Prelude.{◌≡◌, ◌≢◌, List, ℕ, ◌*◌, eqb, length}
+use Rattle.std.specs.Prelude.{◌≡◌, ◌≢◌, List, ℕ, eqb, length}
 use Rattle.meaning.specs.Limits.{version_count, done_number, ill_formed_number}
 use Rattle.meaning.specs.Lent.{Lent}
 use Rattle.records.specs.declared.Version.{Version}

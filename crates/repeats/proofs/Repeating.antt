@@ -8,8 +8,7 @@ use native.Mathlib.Nat.{lt_irrefl, div-eq_of_lt}
 use native.Mathlib.Decide.{dec_lt}
 use native.Mathlib.Omega.{arith}
 use lib.Bits.{bit_xor, and_le_l, and_le_r, xor_add_and, xor_shr}
-use lib.Dec.{eqb}
-use lib.ListN.{length, get_or, set}
+use lib.ListN.{get_or, set}
 use lib.Pow.{pow_pos}
 use lib.Seq.{get_or-set_other}
 use borrow.Author.Tests.{eqb-false}

@@ -1,21 +1,21 @@
 -- Frames answered in a row are steps of the model.
-use mathlib.Core.Path.{◌≡◌, refl, sym, ap, ◌∙◌}
+use mathlib.Core.Path.{◌≡◌, refl, ap, ◌∙◌}
 use mathlib.Core.Logic.{◌⊎◌, inl, inr}
-use mathlib.Core.Bool.{Bool, true, false, cond, ◌&&◌, ◌||◌, false≢true}
+use mathlib.Core.Bool.{Bool, true, false, cond, ◌&&◌, ◌||◌}
 use mathlib.Core.List.{List}
-use Prim.Native.Nat.{ℕ, zero, suc, ◌+◌, ◌-◌, ◌*◌, ◌≤◌, ◌<◌}
+use Prim.Native.Nat.{ℕ, zero, suc, ◌+◌, ◌*◌, ◌≤◌, ◌<◌}
 use native.Mathlib.Nat.{lt_irrefl}
 use native.Mathlib.Omega.{arith}
-use lib.Dec.{ltb, leb, eqb}
-use lib.ListN.{length, get_or, set}
+use lib.Dec.{ltb, eqb}
+use lib.ListN.{set}
 use lib.Seq.{get_or-set_other}
 use borrow.Author.Tests.{lt-ltb, le-ltb, eq-eqb, eqb-true, ltb-true}
 use Rattle.meaning.specs.Limits.{last_party, last_slot, last_walk, parties, party_slots, party_walks, walk_numbers, get_code, next_code, next_back_code, done_number}
 use Rattle.meaning.specs.Counting.{bit}
-use Rattle.meaning.specs.Lent.{VersionRecord, empty_record, WalkSlices, WalkRecord, walk_record}
+use Rattle.meaning.specs.Lent.{VersionRecord, WalkSlices, WalkRecord, walk_record}
 use Rattle.meaning.specs.Trees.{height_of}
 use Rattle.meaning.specs.Frames.{Frame, Answer, encode}
-use Rattle.meaning.specs.Operations.{get, next, next_back, operations, op_of, anyone, uses, owner_or, giver, taker}
+use Rattle.meaning.specs.Operations.{get, next, next_back, operations, op_of, anyone, uses, owner_or, giver}
 use Rattle.meaning.specs.Checks.{no_fault, faults, any_field, ◌if◌, entry_checks, first_of}
 use Rattle.meaning.proofs.Booleans.{both_true}
 use Rattle.records.specs.Records.{record_of}
@@ -27,16 +27,15 @@ use Rattle.levels.specs.Levels.{Taken}
 use Rattle.walk.specs.Walk as walk
 use Rattle.walk.specs.Walk.{number_at, is_ended, taken_of, taken_by}
 use Rattle.requests.specs.Requests.{put, frame_in, answer_place}
-use Rattle.frames.specs.Run.{Run, walk_place, version_in, walk_in, source_in, walked_in, seen_in, supply_in}
-use Rattle.frames.specs.Serve.{done, verdict, respond, serve}
+use Rattle.frames.specs.Run.{Run, walk_place, version_in, walk_in, seen_in, supply_in}
+use Rattle.frames.specs.Serve.{verdict, serve}
 use Rattle.edits.specs.Edits.{valued}
 use Rattle.calls.specs.Walks.{answer_of}
-use Rattle.turns.specs.Turns.{place_of, is_open_at}
-use Rattle.repeats.specs.InARow.{Roomy, is_get, after_gets, Gets, is_step, Walked, walked, after_steps, Steps}
+use Rattle.repeats.specs.InARow.{is_get, after_gets, is_step, Walked, after_steps}
 use Rattle.serving.specs.States.{Runs}
 use Rattle.serving.proofs.Passing.{entry-passes}
 use Rattle.serving.proofs.Seeing.{walk_here}
-use Rattle.answering.proofs.Calling.{place_here, walk-place-here, stays}
+use Rattle.answering.proofs.Calling.{walk-place-here, stays}
 use Rattle.answering.proofs.Reading.{get-turns}
 use Rattle.answering.proofs.Walking.{next-turns, next-back-turns}
 use Rattle.runs.specs.Runs.{run_of, Progress, progress, step, run_from}

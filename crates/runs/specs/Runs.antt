@@ -1,5 +1,5 @@
 -- Frames in order: what each makes of the state, and its answer at its 6 bytes.
-use Rattle.std.specs.Prelude.{◌≡◌, true, cond, ◌&&◌, ◌⊎◌, List, ℕ, zero, suc, ◌+◌, ◌-◌, ◌*◌, ◌≤◌, ◌<◌, ltb, length, get_or}
+use Rattle.std.specs.Prelude.{◌≡◌, true, cond, ◌&&◌, ◌⊎◌, List, ℕ, zero, suc, ◌+◌, ◌-◌, ◌≤◌, ◌<◌, ltb, length, get_or}
 use Rattle.meaning.specs.Limits.{parties, party_slots, version_count, get_code, next_code, next_back_code}
 use Rattle.meaning.specs.Lent.{VersionRecord, empty_record, WalkSlices}
 use Rattle.meaning.specs.Frames.{Frame, encode}

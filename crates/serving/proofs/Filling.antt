@@ -1,7 +1,6 @@
 -- New, clone, hand-over, set, push and drop: a slot is filled.
 use mathlib.Core.Path.{◌≡◌, refl, ap, ◌∙◌}
 use mathlib.Core.Logic.{◌≢◌}
-use mathlib.Core.Bool.{Bool, true, false, ◌&&◌, false≢true}
 use mathlib.Core.List.{List, [], ◌∷◌, ◌++◌}
 use Prim.Native.Nat.{ℕ, ◌+◌, ◌-◌, ◌≤◌, ◌<◌}
 use native.Mathlib.Omega.{arith}
@@ -31,7 +30,7 @@ use Rattle.frames.specs.Run.{Run, slot_place, source_in, target_in, seen_in, sup
 use Rattle.frames.specs.Serve.{fills, done, fresh_in}
 use Rattle.serving.specs.States.{Runs, table_in}
 use Rattle.serving.specs.Passed.{Passed}
-use Rattle.serving.specs.Does.{taker_in, version_for, effect_on, Does}
+use Rattle.serving.specs.Does.{taker_in, effect_on, Does}
 use Rattle.serving.proofs.Seeing.{version-here}
 use Rattle.serving.proofs.Passing.{no_field}
 use Rattle.serving.proofs.Sources.{charge-met, source-live, source_is, filled_within, filled-vacant}

@@ -19,7 +19,7 @@ use Rattle.frames.specs.Run.{Run, source_in, target_in, seen_in, supply_in}
 use Rattle.frames.specs.Serve.{answers, item_at, done, fresh_in}
 use Rattle.serving.specs.States.{Runs, table_in}
 use Rattle.serving.specs.Passed.{Passed}
-use Rattle.serving.specs.Does.{taker_in, version_for, effect_on, Does}
+use Rattle.serving.specs.Does.{taker_in, effect_on, Does}
 use Rattle.serving.proofs.Seeing.{slot_seen, version-seen}
 use Rattle.serving.proofs.Sources.{source_is, other-lives}
 

@@ -9,7 +9,7 @@ use lib.ListN.{set}
 use Rattle.meaning.specs.Limits.{done_number, parties}
 use Rattle.meaning.specs.Frames.{Frame, Answer}
 use Rattle.meaning.specs.Operations.{Op, new, clone, release, len, get, set_at, push_back, drop_last, open_walk, next, next_back, close_walk, hand_over, free_nodes, first, last, compare, unknown, anyone, uses, owner_or, op_of, taker}
-use Rattle.meaning.specs.Costs.{priced, cost}
+use Rattle.meaning.specs.Costs.{cost}
 use Rattle.meaning.specs.Checks.{checks, first_of, seen_by}
 use Rattle.meaning.specs.Serve.{refused, run}
 use Rattle.meaning.specs.Serve as plain

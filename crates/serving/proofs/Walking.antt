@@ -29,7 +29,7 @@ use Rattle.frames.specs.Run.{Run, walk_place, walk_in, source_in, walked_in, see
 use Rattle.frames.specs.Serve.{opens, got_of, takes, closes, done, fresh_in}
 use Rattle.serving.specs.States.{Runs, table_in}
 use Rattle.serving.specs.Passed.{Passed}
-use Rattle.serving.specs.Does.{version_for, left_for, taker_in, effect_on, Does}
+use Rattle.serving.specs.Does.{left_for, taker_in, effect_on, Does}
 use Rattle.serving.proofs.Seeing.{walk_here, walk-seen, ended-seen}
 use Rattle.serving.proofs.Sources.{source-live, source_is, walked-within, walked-open, opened-within, opened-closed}
 

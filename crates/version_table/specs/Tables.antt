@@ -1,5 +1,5 @@
 -- The version table as a slice of a host's and as a value: 64 records, copied whole or not at all.
-use Rattle.std.specs.Prelude.{ℕ, ◌*◌, Bool, true, cond, ◌&&◌, List, eqb, length, replicate}
+use Rattle.std.specs.Prelude.{ℕ, Bool, true, cond, ◌&&◌, List, eqb, length, replicate}
 use Rattle.meaning.specs.Limits.{version_count}
 use Rattle.records.specs.declared.Version.{Version}
 

@@ -1,5 +1,5 @@
 -- What one element taken makes of the walk records, in the words of the meaning.
-use Rattle.std.specs.Prelude.{◌≡◌, ◌≢◌, List, ℕ, ◌+◌, ◌*◌, length}
+use Rattle.std.specs.Prelude.{◌≡◌, ◌≢◌, List, ℕ, ◌+◌, length}
 use Rattle.meaning.specs.Limits.{all_numbers, places}
 use Rattle.meaning.specs.Lent.{Nodes, VersionRecord, WalkSlices, WalkRecord, closed_record, walk_record}
 use Rattle.meaning.specs.Trees.{contents}

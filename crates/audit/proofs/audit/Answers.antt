@@ -1,7 +1,6 @@
 use mathlib.Core.Path.{◌∙◌}
 use lib.ListN.{length-map}
 use borrow.Author.Tests.{not-true, not-false}
-use borrow.Author.Rules.{rules}
 use Rattle.records.specs.Records.{record_of}
 use Rattle.audit_model.proofs.Sizes.{lengths-fit}
 use Rattle.audit_reads.specs.Slices.{lent_from}

@@ -1,4 +1,3 @@
-use borrow.Author.Rules.{rules}
 use Rattle.audit_reads.specs.Slices.{lent_from}
 use Rattle.audit.proofs.Judging.{ready-zeros}
 use Rattle.audit.proofs.audit_small.Goals as goal

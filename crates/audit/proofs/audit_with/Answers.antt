@@ -1,5 +1,4 @@
 use borrow.Author.Tests.{not-true, not-false}
-use borrow.Author.Rules.{rules}
 use Rattle.audit_reads.specs.Slices.{lent_from}
 use Rattle.audit.proofs.Judging.{blank-under, by-records, by_order, by-nodes}
 use mathlib.Core.Path.{ap}

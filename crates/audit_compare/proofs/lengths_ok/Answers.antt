@@ -1,5 +1,4 @@
 use mathlib.Core.Path.{refl}
-use borrow.Author.Rules.{rules}
 use Rattle.audit_compare.proofs.Comparing.{too_long, not-long}
 use Rattle.audit_compare.proofs.lengths_ok.Goals as goal
 

@@ -1,5 +1,4 @@
 use borrow.Author.Tests.{not-true, not-false}
-use borrow.Author.Rules.{rules}
 use Rattle.audit_model.specs.Made.{nodes_of}
 use Rattle.audit_compare.proofs.Comparing.{node-free, node-differs, node-spare}
 use mathlib.Core.Path.{ap}

@@ -1,16 +1,10 @@
-use mathlib.Core.Path.{◌≡◌, sym, ◌∙◌}
+use mathlib.Core.Path.{◌≡◌}
 use mathlib.Core.Bool.{true}
 use Prim.Native.Nat.{◌≤◌, ◌-◌}
-use native.Mathlib.Omega.{arith}
 use lib.ListN.{length}
-use borrow.Author.Tests.{not-true, not-false}
-use borrow.Author.Rules.{rules}
-use Rattle.audit_model.proofs.Steps.{all_start, all-next, all-fails, all-ends}
 use Rattle.audit_model.specs.Audit.{node_ok}
 use Rattle.audit_model.specs.Records.{all_to}
 use Rattle.audit_model.specs.Made.{nodes_of}
-use mathlib.Core.Path.{ap}
-use mathlib.Core.Bool.{not}
 use Rattle.audit_compare.proofs.nodes_ok.Given as goal
 
 abbrev pub invariant-loop-n : goal.invariant-loop-n

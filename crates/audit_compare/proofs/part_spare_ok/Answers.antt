@@ -1,10 +1,8 @@
-use Prim.Native.Nat.{ℕ, ◌≤◌, ◌-◌, ◌+◌, ◌*◌}
+use Prim.Native.Nat.{ℕ, ◌+◌, ◌*◌}
 use native.Mathlib.Omega.{arith}
 use lib.ListN.{get_or}
-use lib.Dec.{eqb}
-use borrow.Author.Rules.{rules}
 use Rattle.meaning.specs.Limits.{node_cells}
-use Rattle.audit_model.proofs.Steps.{Held, held_start, held_next}
+use Rattle.audit_model.proofs.Steps.{held_start, held_next}
 use Rattle.audit_compare.proofs.Comparing.{spare-zero, spare-ends, spare-fails}
 use Rattle.audit_compare.proofs.part_spare_ok.Goals as goal
 

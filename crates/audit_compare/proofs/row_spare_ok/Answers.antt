@@ -1,9 +1,8 @@
-use Prim.Native.Nat.{ℕ, ◌-◌, ◌+◌}
+use Prim.Native.Nat.{ℕ, ◌+◌}
 use native.Mathlib.Omega.{arith}
 use lib.ListN.{get_or}
 use mathlib.Core.Path.{refl}
-use Rattle.meaning.specs.Limits.{node_cells}
-use Rattle.audit_compare.proofs.Comparing.{Looked, look-begins, look-goes-on, look-ends}
+use Rattle.audit_compare.proofs.Comparing.{look-begins, look-goes-on, look-ends}
 use Rattle.audit_compare.proofs.row_spare_ok.Goals as goal
 
 -- `audit_compare::row_spare_ok` meets its contract.

@@ -1,9 +1,7 @@
 use Prim.Native.Nat.{ℕ, ◌-◌, ◌+◌}
-use native.Mathlib.Omega.{arith}
 use lib.ListN.{get_or}
-use mathlib.Core.Path.{refl}
 use Rattle.meaning.specs.Limits.{node_cells}
-use Rattle.audit_compare.proofs.Comparing.{Looked, look-begins, look-goes-on, look-ends}
+use Rattle.audit_compare.proofs.Comparing.{Looked}
 use Rattle.audit_compare.proofs.row_spare_ok.Given as goal
 
 abbrev pub invariant-loop-i : goal.invariant-loop-i

@@ -1,13 +1,9 @@
-use mathlib.Core.Path.{◌≡◌, refl, ap, ◌∙◌}
-use mathlib.Core.Bool.{true}
-use Prim.Native.Nat.{◌≤◌, ◌-◌, ℕ, ◌<◌}
+use mathlib.Core.Path.{refl, ap, ◌∙◌}
 use native.Mathlib.Nat.{pos_of_ne-zero}
 use native.Mathlib.Omega.{arith}
 use lib.ListN.{length, length-set}
 use borrow.Author.Tests.{not-true, not-false}
-use borrow.Author.Rules.{rules}
 use Rattle.audit_model.proofs.Steps.{through-start, through-next, through-fails, through-ends}
-use Rattle.audit_model.specs.Descent.{answer, through, child, visit}
 use Rattle.audit_model.specs.Made.{nodes_of}
 use Rattle.audit_descent.proofs.Visiting.{visit-out, visit-again, visit-leaf, visit-refused, visit-fails, visit-marks, visit-child}
 use Rattle.audit_descent.proofs.Numbers.{ready-low, ready-below}

@@ -1,17 +1,9 @@
-use mathlib.Core.Path.{◌≡◌, refl, ap, ◌∙◌}
+use mathlib.Core.Path.{◌≡◌}
 use mathlib.Core.Bool.{true}
-use Prim.Native.Nat.{◌≤◌, ◌-◌, ℕ, ◌<◌}
-use native.Mathlib.Nat.{pos_of_ne-zero}
-use native.Mathlib.Omega.{arith}
-use lib.ListN.{length, length-set}
-use borrow.Author.Tests.{not-true, not-false}
-use borrow.Author.Rules.{rules}
-use Rattle.audit_model.proofs.Steps.{through-start, through-next, through-fails, through-ends}
+use Prim.Native.Nat.{◌≤◌, ◌-◌}
+use lib.ListN.{length}
 use Rattle.audit_model.specs.Descent.{answer, through, child, visit}
 use Rattle.audit_model.specs.Made.{nodes_of}
-use Rattle.audit_descent.proofs.Visiting.{visit-out, visit-again, visit-leaf, visit-refused, visit-fails, visit-marks, visit-child}
-use Rattle.audit_descent.proofs.Numbers.{ready-low, ready-below}
-use mathlib.Core.Bool.{not}
 use Rattle.audit_descent.proofs.+descend.Given as goal
 
 abbrev pub decreases-descend : goal.decreases-descend

@@ -1,4 +1,3 @@
-use borrow.Author.Rules.{rules}
 use Rattle.audit_descent.proofs.Visiting.{leaf-marks, leaf-leaves}
 use Rattle.audit_descent.proofs.at_leaf.Goals as goal
 

@@ -1,5 +1,4 @@
 use native.Mathlib.Omega.{arith}
-use borrow.Author.Rules.{rules}
 use Rattle.meaning.specs.Limits.{max_length}
 use Rattle.audit_descent.proofs.Numbers.{product, branch-tested}
 use Rattle.audit_descent.proofs.branch_ok.Goals as goal

@@ -1,4 +1,3 @@
-use borrow.Author.Rules.{rules}
 use Rattle.audit_descent.proofs.Numbers.{capacity-is}
 use Rattle.audit_descent.proofs.capacity.Goals as goal
 

@@ -1,4 +1,3 @@
-use borrow.Author.Rules.{rules}
 use Rattle.audit_descent.proofs.Numbers.{leaf-tested}
 use Rattle.audit_descent.proofs.leaf_ok.Goals as goal
 

@@ -1,5 +1,4 @@
 use native.Mathlib.Omega.{arith}
-use borrow.Author.Rules.{rules}
 use Rattle.meaning.specs.Limits.{node_cells, max_length}
 use Rattle.audit_descent.proofs.Numbers.{product}
 use Rattle.audit_descent.proofs.share.Goals as goal

@@ -1,5 +1,4 @@
 use mathlib.Core.Path.{refl}
-use borrow.Author.Rules.{rules}
 use Rattle.audit_model.specs.Descent.{code}
 use Rattle.audit_model.proofs.code_of.Goals as goal
 

@@ -1,6 +1,5 @@
 use mathlib.Core.Path.{refl}
 use native.Mathlib.Omega.{arith}
-use borrow.Author.Rules.{rules}
 use Rattle.audit_reads.proofs.Reading.{past_end}
 use Rattle.audit_reads.proofs.byte_at.Goals as goal
 

@@ -1,6 +1,6 @@
 use lib.IntN.{pos}
 use lib.ListN.{get_or}
-use borrow.Author.Rules.{rules, sfits_of}
+use borrow.Author.Rules.{sfits_of}
 use Rattle.audit_reads.proofs.Reading.{signed-index, no_index}
 use Rattle.audit_reads.proofs.index_is.Goals as goal
 

@@ -1,7 +1,6 @@
 use mathlib.Core.Path.{ap}
 use Prim.Native.Nat.{ℕ}
 use lib.Dec.{eqb}
-use borrow.Author.Rules.{rules}
 use Rattle.audit_reads.proofs.Reading.{both-same}
 use Rattle.audit_reads.proofs.level_is.Goals as goal
 

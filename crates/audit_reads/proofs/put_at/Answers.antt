@@ -1,6 +1,5 @@
 use mathlib.Core.Path.{sym}
 use lib.Seq.{set_out}
-use borrow.Author.Rules.{rules}
 use Rattle.audit_reads.proofs.put_at.Goals as goal
 
 -- `audit_reads::put_at` meets its contract.

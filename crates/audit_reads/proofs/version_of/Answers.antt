@@ -1,4 +1,3 @@
-use borrow.Author.Rules.{rules}
 use Rattle.audit_reads.proofs.Reading.{version-made}
 use Rattle.audit_reads.proofs.version_of.Goals as goal
 

@@ -1,4 +1,3 @@
-use borrow.Author.Rules.{rules}
 use Rattle.audit_reads.proofs.Reading.{past_end}
 use Rattle.audit_reads.proofs.word_at.Goals as goal
 

@@ -1,15 +1,7 @@
-use mathlib.Core.Path.{◌≡◌, refl, ◌∙◌}
-use mathlib.Core.Bool.{true}
-use Prim.Native.Nat.{ℕ, ◌≤◌, ◌-◌}
+use mathlib.Core.Path.{refl, ◌∙◌}
 use native.Mathlib.Omega.{arith}
-use lib.ListN.{length}
 use borrow.Author.Tests.{not-true, not-false}
-use borrow.Author.Rules.{rules}
-use Rattle.records.specs.Records.{records_of}
 use Rattle.audit_model.proofs.Steps.{through-start, through-next, through-fails, through-ends}
-use Rattle.audit_model.specs.Audit.{record_at}
-use Rattle.audit_model.specs.Records.{version_step}
-use Rattle.audit_model.specs.Descent.{answer, through}
 use Rattle.audit_model.specs.Made.{nodes_of}
 use Rattle.audit_records.proofs.Recording.{version-at}
 use mathlib.Core.Path.{ap}

@@ -1,19 +1,12 @@
-use mathlib.Core.Path.{◌≡◌, refl, ◌∙◌}
+use mathlib.Core.Path.{◌≡◌}
 use mathlib.Core.Bool.{true}
 use Prim.Native.Nat.{ℕ, ◌≤◌, ◌-◌}
-use native.Mathlib.Omega.{arith}
 use lib.ListN.{length}
-use borrow.Author.Tests.{not-true, not-false}
-use borrow.Author.Rules.{rules}
 use Rattle.records.specs.Records.{records_of}
-use Rattle.audit_model.proofs.Steps.{through-start, through-next, through-fails, through-ends}
 use Rattle.audit_model.specs.Audit.{record_at}
 use Rattle.audit_model.specs.Records.{version_step}
 use Rattle.audit_model.specs.Descent.{answer, through}
 use Rattle.audit_model.specs.Made.{nodes_of}
-use Rattle.audit_records.proofs.Recording.{version-at}
-use mathlib.Core.Path.{ap}
-use mathlib.Core.Bool.{not}
 use Rattle.audit_records.proofs.versions_ok.Given as goal
 
 abbrev pub invariant-loop-i : goal.invariant-loop-i

@@ -1,5 +1,4 @@
 use borrow.Author.Tests.{not-true, not-false}
-use borrow.Author.Rules.{rules}
 use Rattle.records.specs.Records.{record_of}
 use Rattle.audit_model.specs.Made.{nodes_of}
 use Rattle.audit_records.proofs.Recording.{found_right, walk-fails, walk_ends}

@@ -1,11 +1,4 @@
-use mathlib.Core.Path.{◌≡◌}
-use Prim.Native.Nat.{◌≤◌, ◌-◌}
 use native.Mathlib.Omega.{arith}
-use lib.ListN.{length}
-use borrow.Author.Rules.{rules}
-use Rattle.meaning.specs.Lent.{is_free}
-use Rattle.meaning.specs.Counting.{how_many}
-use Rattle.audit_model.specs.Made.{kinds_of}
 use Rattle.audit_tally.proofs.Raising.{many-start, many-next, byte-most, free-ends}
 use Rattle.audit_tally.proofs.count_free.Goals as goal
 

@@ -1,4 +1,3 @@
-use borrow.Author.Rules.{rules}
 use Rattle.audit_tally.proofs.Raising.{free-is}
 use Rattle.audit_tally.proofs.is_free.Goals as goal
 

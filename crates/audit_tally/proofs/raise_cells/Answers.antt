@@ -1,10 +1,4 @@
-use mathlib.Core.Path.{◌≡◌}
-use Prim.Native.Nat.{ℕ, ◌≤◌, ◌-◌, ◌+◌, ◌*◌}
 use native.Mathlib.Omega.{arith}
-use lib.ListN.{get_or}
-use borrow.Author.Rules.{rules}
-use Rattle.meaning.specs.Limits.{node_cells}
-use Rattle.audit_model.specs.Tallies.{raise_to}
 use Rattle.audit_tally.proofs.Raising.{to_start, to-next, to-ends, to-under, to_same}
 use Rattle.audit_tally.proofs.raise_cells.Goals as goal
 

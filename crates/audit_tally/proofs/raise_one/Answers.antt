@@ -1,5 +1,4 @@
 use native.Mathlib.Omega.{arith}
-use borrow.Author.Rules.{rules}
 use Rattle.audit_tally.proofs.Raising.{raise-in, raise-out, under_at}
 use Rattle.audit_tally.proofs.raise_one.Goals as goal
 

@@ -1,4 +1,3 @@
-use borrow.Author.Rules.{rules}
 use Rattle.records.specs.Records.{record_of}
 use Rattle.audit_tally.proofs.Raising.{root_live, root-empty}
 use Rattle.audit_tally.proofs.raise_root.Goals as goal

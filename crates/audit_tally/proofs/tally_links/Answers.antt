@@ -1,4 +1,3 @@
-use borrow.Author.Rules.{rules}
 use Rattle.audit_tally.proofs.Raising.{links-tallied}
 use Rattle.audit_tally.proofs.tally_links.Goals as goal
 

@@ -1,4 +1,3 @@
-use borrow.Author.Rules.{rules}
 use Rattle.audit_model.specs.Made.{nodes_of}
 use Rattle.audit_tally.proofs.Raising.{node-none, node-links}
 use Rattle.audit_tally.proofs.tally_node.Goals as goal

@@ -1,9 +1,6 @@
-use mathlib.Core.Path.{◌≡◌}
-use Prim.Native.Nat.{◌≤◌, ◌-◌, ◌+◌}
+use Prim.Native.Nat.{◌+◌}
 use native.Mathlib.Omega.{arith}
-use lib.ListN.{length}
 use Rattle.meaning.specs.Limits.{max_nodes, version_count, walk_count}
-use Rattle.audit_model.specs.Tallies.{nodes_tally}
 use Rattle.audit_model.specs.Made.{nodes_of}
 use Rattle.audit_tally.proofs.Raising.{nodes-start, nodes-next, nodes-ends, nodes-under, nodes-same}
 use Rattle.audit_tally.proofs.tally_nodes.Goals as goal

@@ -1,11 +1,8 @@
 use mathlib.Core.Path.{◌≡◌}
-use Prim.Native.Nat.{◌≤◌, ◌-◌, ◌+◌}
-use native.Mathlib.Omega.{arith}
+use Prim.Native.Nat.{◌≤◌, ◌-◌}
 use lib.ListN.{length}
-use Rattle.meaning.specs.Limits.{max_nodes, version_count, walk_count}
 use Rattle.audit_model.specs.Tallies.{nodes_tally}
 use Rattle.audit_model.specs.Made.{nodes_of}
-use Rattle.audit_tally.proofs.Raising.{nodes-start, nodes-next, nodes-ends, nodes-under, nodes-same}
 use Rattle.audit_tally.proofs.tally_nodes.Given as goal
 
 abbrev pub invariant-loop-m : goal.invariant-loop-m

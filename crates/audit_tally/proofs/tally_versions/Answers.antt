@@ -1,11 +1,8 @@
-use mathlib.Core.Path.{◌≡◌}
-use Prim.Native.Nat.{◌≤◌, ◌-◌, ◌+◌}
+use Prim.Native.Nat.{◌+◌}
 use native.Mathlib.Omega.{arith}
-use borrow.Author.Rules.{rules}
 use Rattle.meaning.specs.Limits.{max_nodes, version_count}
 use Rattle.records.specs.Records.{records_of}
 use Rattle.audit_model.specs.Audit.{record_at}
-use Rattle.audit_model.specs.Tallies.{roots_tally}
 use Rattle.audit_tally.proofs.Raising.{roots-start, roots-next, roots-ends, roots-under, roots-same, table_at}
 use Rattle.audit_tally.proofs.tally_versions.Goals as goal
 

@@ -1,9 +1,6 @@
-use mathlib.Core.Path.{◌≡◌}
-use Prim.Native.Nat.{◌≤◌, ◌-◌, ◌+◌}
+use Prim.Native.Nat.{◌+◌}
 use native.Mathlib.Omega.{arith}
-use borrow.Author.Rules.{rules}
 use Rattle.meaning.specs.Limits.{max_nodes, version_count, walk_count}
-use Rattle.audit_model.specs.Tallies.{roots_tally}
 use Rattle.audit_model.specs.Made.{walk_version}
 use Rattle.audit_tally.proofs.Raising.{roots-start, roots-next, roots-ends, roots-under, roots-same}
 use Rattle.audit_tally.proofs.tally_walks.Goals as goal

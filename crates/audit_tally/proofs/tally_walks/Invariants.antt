@@ -1,11 +1,7 @@
 use mathlib.Core.Path.{◌≡◌}
-use Prim.Native.Nat.{◌≤◌, ◌-◌, ◌+◌}
-use native.Mathlib.Omega.{arith}
-use borrow.Author.Rules.{rules}
-use Rattle.meaning.specs.Limits.{max_nodes, version_count, walk_count}
+use Prim.Native.Nat.{◌≤◌, ◌-◌}
 use Rattle.audit_model.specs.Tallies.{roots_tally}
 use Rattle.audit_model.specs.Made.{walk_version}
-use Rattle.audit_tally.proofs.Raising.{roots-start, roots-next, roots-ends, roots-under, roots-same}
 use Rattle.audit_tally.proofs.tally_walks.Given as goal
 
 abbrev pub invariant-loop-n : goal.invariant-loop-n

@@ -1,10 +1,7 @@
 use mathlib.Core.Path.{refl, sym, ◌∙◌}
-use Prim.Native.Nat.{ℕ, ◌≤◌, ◌-◌}
 use native.Mathlib.Omega.{arith}
 use borrow.Author.Tests.{not-true, not-false}
-use borrow.Author.Rules.{rules}
-use Rattle.audit_model.proofs.Steps.{Held, held_start, held_next}
-use Rattle.audit_model.specs.Records.{level_is}
+use Rattle.audit_model.proofs.Steps.{held_start, held_next}
 use Rattle.audit_walks.proofs.Walking.{level-read, blank-ends, blank-fails}
 use mathlib.Core.Path.{ap}
 use mathlib.Core.Bool.{not}

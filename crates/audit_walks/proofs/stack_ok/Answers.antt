@@ -1,5 +1,4 @@
 use borrow.Author.Tests.{not-true, not-false}
-use borrow.Author.Rules.{rules}
 use Rattle.records.specs.Records.{record_of}
 use Rattle.audit_walks.proofs.Walking.{stack-none, stack-fails, stack-ends, taken-legal}
 use mathlib.Core.Path.{ap}

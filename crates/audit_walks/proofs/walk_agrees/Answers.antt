@@ -1,6 +1,5 @@
 use native.Mathlib.Omega.{arith}
 use borrow.Author.Tests.{not-true, not-false}
-use borrow.Author.Rules.{rules}
 use Rattle.records.specs.Records.{record_of}
 use Rattle.audit_walks.proofs.Walking.{agrees-front, agrees_back, agrees-forward, agrees-ends}
 use mathlib.Core.Path.{ap}

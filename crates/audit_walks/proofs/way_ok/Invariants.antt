@@ -1,12 +1,6 @@
-use mathlib.Core.Path.{◌≡◌, refl}
+use mathlib.Core.Path.{◌≡◌}
 use Prim.Native.Nat.{◌*◌, ◌≤◌}
-use native.Mathlib.Omega.{arith}
-use borrow.Author.Tests.{not-true, not-false}
-use borrow.Author.Rules.{rules}
 use Rattle.audit_model.specs.Records.{way_ok}
-use Rattle.audit_walks.proofs.Walking.{level-read, way_next, way-fails, way-ends, shift-takes, shift_falls, lower-shift}
-use mathlib.Core.Path.{ap}
-use mathlib.Core.Bool.{not}
 use Rattle.audit_walks.proofs.way_ok.Given as goal
 
 abbrev pub invariant-loop-k : goal.invariant-loop-k

@@ -1,8 +1,5 @@
 use native.Mathlib.Omega.{arith}
 use Rattle.batch.proofs.Batching.{ragged, no_room, ill-formed, can-run, served, reported}
-use borrow.Author.Rules.{rules}
-use mathlib.Core.Path.{ap}
-use mathlib.Core.Bool.{not}
 use Rattle.batch.proofs.batch.Goals as goal
 
 pub returns-then-asked-ne0 : goal.returns-then-asked-ne0

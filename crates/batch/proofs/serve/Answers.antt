@@ -1,5 +1,4 @@
 use Rattle.batch.proofs.Batching.{loads, stores}
-use borrow.Author.Rules.{rules}
 use Rattle.batch.proofs.serve.Goals as goal
 
 pub run-r-requires : goal.run-r-requires

@@ -1,7 +1,6 @@
 use Rattle.records.specs.Records.{record_of}
 use Rattle.requests.specs.Requests.{frame_of}
 use Rattle.calls.proofs.Acting.{act-walks, act-stores}
-use borrow.Author.Rules.{rules}
 use Rattle.calls.proofs.act.Goals as goal
 
 pub act_on_walk-requires : goal.act_on_walk-requires

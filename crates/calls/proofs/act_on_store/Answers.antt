@@ -1,7 +1,5 @@
-use Rattle.records.specs.Records.{record_of}
 use Rattle.requests.specs.Requests.{frame_of}
 use Rattle.calls.proofs.Acting.{edit-sourced, release-sourced, edit-stores, release-stores, read-stores}
-use borrow.Author.Rules.{rules}
 use Rattle.calls.proofs.act_on_store.Goals as goal
 
 pub edit-requires : goal.edit-requires

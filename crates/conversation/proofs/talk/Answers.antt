@@ -1,6 +1,5 @@
 use mathlib.Core.Path.{refl}
 use native.Mathlib.Omega.{arith}
-use borrow.Author.Rules.{rules}
 use Rattle.conversation.proofs.Piece.{can-read, can-run, can-print, talks}
 use Rattle.conversation.proofs.talk.Goals as goal
 

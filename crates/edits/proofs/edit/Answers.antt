@@ -1,7 +1,6 @@
 use Rattle.records.specs.Records.{record_of}
 use Rattle.requests.specs.Requests.{frame_of}
 use Rattle.edits.proofs.Editing.{new-acts, edit-shares, edit-paths}
-use borrow.Author.Rules.{rules}
 use Rattle.edits.proofs.edit.Goals as goal
 
 pub new_with_bits-e-requires : goal.new_with_bits-e-requires

@@ -1,7 +1,6 @@
 use Rattle.records.specs.Records.{record_of}
 use Rattle.requests.specs.Requests.{frame_of}
 use Rattle.edits.proofs.Editing.{set-acts, push-acts, drop-acts}
-use borrow.Author.Rules.{rules}
 use Rattle.edits.proofs.edit_path.Goals as goal
 
 pub set-e-requires : goal.set-e-requires

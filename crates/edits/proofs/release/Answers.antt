@@ -1,6 +1,5 @@
 use Rattle.records.specs.Records.{record_of}
 use Rattle.edits.proofs.Editing.{releases}
-use borrow.Author.Rules.{rules}
 use Rattle.edits.proofs.release.Goals as goal
 
 pub release-left-requires : goal.release-left-requires

@@ -1,6 +1,5 @@
 use Rattle.records.specs.Records.{record_of}
 use Rattle.edits.proofs.Editing.{shares}
-use borrow.Author.Rules.{rules}
 use Rattle.edits.proofs.share.Goals as goal
 
 pub returns : goal.returns

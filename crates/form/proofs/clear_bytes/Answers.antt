@@ -1,8 +1,6 @@
 use mathlib.Core.Path.{refl}
-use Prim.Native.Nat.{◌-◌}
 use lib.ListN.{length}
-use borrow.Author.Rules.{rules}
-use Rattle.form.proofs.Filling.{Filled, fill-starts, fill-turn, fill-ends}
+use Rattle.form.proofs.Filling.{fill-starts, fill-turn, fill-ends}
 use Rattle.form.proofs.clear_bytes.Goals as goal
 
 -- `form::clear_bytes` meets its contract.

@@ -1,8 +1,5 @@
-use mathlib.Core.Path.{refl}
 use Prim.Native.Nat.{◌-◌}
-use lib.ListN.{length}
-use borrow.Author.Rules.{rules}
-use Rattle.form.proofs.Filling.{Filled, fill-starts, fill-turn, fill-ends}
+use Rattle.form.proofs.Filling.{Filled}
 use Rattle.form.proofs.clear_bytes.Given as goal
 
 abbrev pub invariant-loop-i : goal.invariant-loop-i

@@ -1,9 +1,6 @@
 use mathlib.Core.Path.{refl}
-use Prim.Native.Nat.{◌-◌}
-use lib.IntN.{pos}
 use lib.ListN.{length}
-use borrow.Author.Rules.{rules}
-use Rattle.form.proofs.Filling.{Filled, fill-starts, fill-turn, fill-ends}
+use Rattle.form.proofs.Filling.{fill-starts, fill-turn, fill-ends}
 use Rattle.form.proofs.clear_indices.Goals as goal
 
 -- `form::clear_indices` meets its contract.

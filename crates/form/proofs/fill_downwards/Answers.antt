@@ -1,8 +1,6 @@
 use mathlib.Core.Path.{refl}
-use Prim.Native.Nat.{◌-◌}
 use lib.ListN.{length}
-use borrow.Author.Rules.{rules}
-use Rattle.form.proofs.Filling.{Ordered, order-starts, order-turn, order-ends}
+use Rattle.form.proofs.Filling.{order-starts, order-turn, order-ends}
 use Rattle.form.proofs.fill_downwards.Goals as goal
 
 -- `form::fill_downwards` meets its contract.

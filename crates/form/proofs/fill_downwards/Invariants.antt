@@ -1,8 +1,5 @@
-use mathlib.Core.Path.{refl}
 use Prim.Native.Nat.{◌-◌}
-use lib.ListN.{length}
-use borrow.Author.Rules.{rules}
-use Rattle.form.proofs.Filling.{Ordered, order-starts, order-turn, order-ends}
+use Rattle.form.proofs.Filling.{Ordered}
 use Rattle.form.proofs.fill_downwards.Given as goal
 
 abbrev pub invariant-loop-i : goal.invariant-loop-i

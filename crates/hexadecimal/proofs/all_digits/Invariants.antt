@@ -1,10 +1,7 @@
 use mathlib.Core.Path.{◌≡◌}
 use Prim.Native.Nat.{◌≤◌, ◌-◌}
-use native.Mathlib.Omega.{arith}
 use lib.ListN.{length, take}
-use borrow.Author.Rules.{rules}
 use Rattle.meaning.specs.Program.{all_digits}
-use Rattle.hexadecimal.proofs.Digits.{all_start, all-next, all-ends}
 use Rattle.hexadecimal.proofs.all_digits.Given as goal
 
 abbrev pub invariant-loop-i : goal.invariant-loop-i

@@ -1,4 +1,3 @@
-use borrow.Author.Rules.{rules}
 use Rattle.hexadecimal.proofs.Digits.{number-byte, letter-byte}
 use Rattle.hexadecimal.proofs.digit_byte.Goals as goal
 

@@ -1,10 +1,7 @@
-use mathlib.Core.Path.{◌≡◌, refl}
-use Prim.Native.Nat.{◌≤◌, ◌-◌, ◌+◌, ◌*◌}
+use mathlib.Core.Path.{refl}
+use Prim.Native.Nat.{◌+◌}
 use native.Mathlib.Omega.{arith}
-use lib.ListN.{length, length-set}
-use lib.Seq.{paste}
-use borrow.Author.Rules.{rules}
-use Rattle.hexadecimal.specs.Text.{printed_answer}
+use lib.ListN.{length-set}
 use Rattle.hexadecimal.proofs.Pairs.{show-start, show-same, show-next, show-end}
 use Rattle.hexadecimal.proofs.print_answer.Goals as goal
 

@@ -1,11 +1,8 @@
-use mathlib.Core.Path.{◌≡◌, refl}
-use Prim.Native.Nat.{◌≤◌, ◌-◌, ◌+◌, ◌*◌}
-use native.Mathlib.Omega.{arith}
-use lib.ListN.{length, length-set}
+use mathlib.Core.Path.{◌≡◌}
+use Prim.Native.Nat.{◌≤◌, ◌-◌, ◌*◌}
+use lib.ListN.{length}
 use lib.Seq.{paste}
-use borrow.Author.Rules.{rules}
 use Rattle.hexadecimal.specs.Text.{printed_answer}
-use Rattle.hexadecimal.proofs.Pairs.{show-start, show-same, show-next, show-end}
 use Rattle.hexadecimal.proofs.print_answer.Given as goal
 
 abbrev pub invariant-loop-i : goal.invariant-loop-i

@@ -1,4 +1,3 @@
-use borrow.Author.Rules.{rules}
 use Rattle.host.proofs.Batching.{batch-refused, batch-done}
 use Rattle.host.proofs.batch_table.Goals as goal
 

@@ -1,4 +1,3 @@
-use borrow.Author.Rules.{rules}
 use Rattle.host.proofs.Forming.{form-refused, form-done}
 use Rattle.host.proofs.form_table.Goals as goal
 

@@ -1,5 +1,4 @@
 use Rattle.jumperloft.proofs.Starting.{formed-runs, zeros-fit, zeros-size}
-use borrow.Author.Rules.{rules}
 use Rattle.jumperloft.proofs.main.Goals as goal
 
 pub answer_all-requires : goal.answer_all-requires

@@ -1,5 +1,4 @@
 use native.Mathlib.Omega.{arith}
-use borrow.Author.Rules.{rules}
 use Rattle.lending.proofs.Refusing.{ragged-number, room-number, table-number}
 use Rattle.lending.proofs.refusal_of_sizes.Goals as goal
 

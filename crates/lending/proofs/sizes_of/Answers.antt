@@ -1,4 +1,3 @@
-use borrow.Author.Rules.{rules}
 use Rattle.lending.proofs.Sizing.{sized, none_below, none_above, at_least_one}
 use Rattle.lending.proofs.sizes_of.Goals as goal
 

@@ -1,5 +1,4 @@
 use Rattle.levels.proofs.StackLaws.{dug-below, popped-below}
-use borrow.Author.Rules.{rules}
 use Rattle.levels.proofs.advance.Goals as goal
 
 pub returns-then-n-m : goal.returns-then-n-m

@@ -1,6 +1,5 @@
 use mathlib.Core.Path.{refl}
 use Rattle.levels.proofs.StackLaws.{goes_on, begins-anew, all-ended, levels-at}
-use borrow.Author.Rules.{rules}
 use Rattle.levels.proofs.advance_near.Goals as goal
 
 pub returns-then-advance : goal.returns-then-advance

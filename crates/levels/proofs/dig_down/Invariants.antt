@@ -1,10 +1,7 @@
-use mathlib.Core.Path.{◌≡◌, refl}
+use mathlib.Core.Path.{◌≡◌}
 use Prim.Native.Nat.{◌≤◌}
-use native.Mathlib.Omega.{arith}
-use borrow.Author.Rules.{rules}
 use Rattle.level.specs.Level.{levels}
 use Rattle.levels.specs.Levels.{dug_down}
-use Rattle.levels.proofs.StackLaws.{digs-on, dug-all}
 use Rattle.levels.proofs.dig_down.Given as goal
 
 abbrev pub invariant-loop-j : goal.invariant-loop-j

@@ -1,5 +1,4 @@
 use Rattle.levels.proofs.StackLaws.{initialises, stands}
-use borrow.Author.Rules.{rules}
 use Rattle.levels.proofs.init_if_needed.Goals as goal
 
 pub returns-then-taken-eq0 : goal.returns-then-taken-eq0

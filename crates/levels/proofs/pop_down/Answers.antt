@@ -1,9 +1,5 @@
-use mathlib.Core.Path.{◌≡◌, refl}
-use Prim.Native.Nat.{◌≤◌}
+use mathlib.Core.Path.{refl}
 use native.Mathlib.Omega.{arith}
-use borrow.Author.Rules.{rules}
-use Rattle.level.specs.Level.{levels}
-use Rattle.levels.specs.Levels.{popped_down}
 use Rattle.levels.proofs.StackLaws.{pops-on, popped-all}
 use Rattle.levels.proofs.pop_down.Goals as goal
 

@@ -1,11 +1,8 @@
-use mathlib.Core.Path.{◌≡◌, refl}
+use mathlib.Core.Path.{◌≡◌}
 use mathlib.Core.List.{List}
 use Prim.Native.Nat.{ℕ, ◌+◌, ◌-◌, ◌≤◌}
-use native.Mathlib.Omega.{arith}
-use borrow.Author.Rules.{rules}
 use Rattle.level.specs.Level.{levels}
 use Rattle.levels.specs.Levels.{advanced_by, renewed_down}
-use Rattle.levels.proofs.StackLaws.{starts, steps_on, stops, at-the-end}
 use Rattle.levels.proofs.step_up.Given as goal
 
 abbrev pub invariant-loop-n : goal.invariant-loop-n

@@ -1,5 +1,4 @@
 use Rattle.levels.proofs.StackLaws.{takes}
-use borrow.Author.Rules.{rules}
 use Rattle.levels.proofs.take.Goals as goal
 
 pub returns : goal.returns

@@ -1,5 +1,4 @@
 use native.Mathlib.Omega.{arith}
-use borrow.Author.Rules.{rules}
 use Rattle.lines.proofs.Steps.{no-frame, frame_found}
 use Rattle.lines.proofs.is_frame_at.Goals as goal
 

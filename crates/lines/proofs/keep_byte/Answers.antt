@@ -1,5 +1,4 @@
 use native.Mathlib.Omega.{arith}
-use borrow.Author.Rules.{rules}
 use Rattle.lines.proofs.Turns.{keep-more, keep-long}
 use Rattle.lines.proofs.keep_byte.Goals as goal
 

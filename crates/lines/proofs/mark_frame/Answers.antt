@@ -1,7 +1,6 @@
 use mathlib.Core.Path.{refl, ap, ◌∙◌}
 use Prim.Native.Nat.{ℕ}
 use lib.Seq.{paste}
-use borrow.Author.Rules.{rules}
 use Rattle.meaning.specs.Limits.{frame_size}
 use Rattle.meaning.specs.Program.{from_hex}
 use Rattle.lines.proofs.mark_frame.Goals as goal

@@ -1,11 +1,5 @@
-use mathlib.Core.Path.{◌≡◌, refl}
-use Prim.Native.Nat.{◌≤◌, ◌-◌, ◌*◌}
+use mathlib.Core.Path.{refl}
 use native.Mathlib.Omega.{arith}
-use lib.ListN.{length, take}
-use borrow.Author.Rules.{rules}
-use Rattle.hexadecimal.specs.Text.{printed_size}
-use Rattle.lines.specs.Lines.{frames_marked}
-use Rattle.lines.specs.Printing.{printed}
 use Rattle.lines.proofs.Printed.{none-counted, none-printed, line-can, next-printed, all-printed}
 use Rattle.lines.proofs.print_answers.Goals as goal
 

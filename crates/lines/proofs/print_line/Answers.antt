@@ -1,5 +1,4 @@
 use native.Mathlib.Omega.{arith}
-use borrow.Author.Rules.{rules}
 use Rattle.lines.proofs.Printed.{frame-answered, frame-prints, other-prints}
 use Rattle.lines.proofs.print_line.Goals as goal
 

@@ -1,4 +1,3 @@
-use borrow.Author.Rules.{rules}
 use Rattle.lines.proofs.Steps.{has_room, byte-on, feed-on}
 use Rattle.lines.proofs.read_byte.Goals as goal
 

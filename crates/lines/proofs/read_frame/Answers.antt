@@ -1,4 +1,3 @@
-use borrow.Author.Rules.{rules}
 use Rattle.lines.proofs.Steps.{has_room, part-digits, frame_on}
 use Rattle.lines.proofs.read_frame.Goals as goal
 

@@ -1,11 +1,6 @@
-use mathlib.Core.Path.{◌≡◌, refl}
-use mathlib.Core.List.{List}
-use Prim.Native.Nat.{ℕ, ◌≤◌, ◌-◌}
+use mathlib.Core.Path.{refl}
 use native.Mathlib.Omega.{arith}
-use lib.ListN.{length, take}
 use borrow.Author.Rules.{rules}
-use Rattle.lines.specs.Lines.{Keeps}
-use Rattle.lines.specs.Reading.{Reads, Bounded}
 use Rattle.lines.proofs.Steps.{read-start, read-ends}
 use Rattle.lines.proofs.read_lines.Goals as goal
 

@@ -1,12 +1,9 @@
-use mathlib.Core.Path.{◌≡◌, refl}
+use mathlib.Core.Path.{◌≡◌}
 use mathlib.Core.List.{List}
 use Prim.Native.Nat.{ℕ, ◌≤◌, ◌-◌}
-use native.Mathlib.Omega.{arith}
 use lib.ListN.{length, take}
-use borrow.Author.Rules.{rules}
 use Rattle.lines.specs.Lines.{Keeps}
 use Rattle.lines.specs.Reading.{Reads, Bounded}
-use Rattle.lines.proofs.Steps.{read-start, read-ends}
 use Rattle.lines.proofs.read_lines.Given as goal
 
 abbrev pub invariant-loop-s : goal.invariant-loop-s

@@ -1,4 +1,3 @@
-use borrow.Author.Rules.{rules}
 use Rattle.lines.proofs.read_on.Goals as goal
 
 -- `lines::read_on` meets its contract.

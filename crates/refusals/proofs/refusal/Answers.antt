@@ -1,4 +1,3 @@
-use borrow.Author.Rules.{rules}
 use Rattle.requests.specs.Requests.{frame_of}
 use Rattle.refusals.specs.Flags.{standing}
 use Rattle.refusals.proofs.Refusing.{refusal_is}

@@ -1,4 +1,3 @@
-use borrow.Author.Rules.{rules}
 use Rattle.requests.specs.Requests.{frame_of}
 use Rattle.refusals.proofs.Refusing.{taker-is}
 use Rattle.refusals.proofs.taker.Goals as goal

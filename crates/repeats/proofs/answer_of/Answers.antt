@@ -1,6 +1,4 @@
-use mathlib.Core.Path.{◌≡◌, refl, sym, ap}
-use borrow.Author.Rules.{rules}
-use Rattle.lookup.specs.declared.Got.{Got}
+use mathlib.Core.Path.{sym, ap}
 use Rattle.meaning.specs.Serve.{refused}
 use Rattle.calls.specs.Walks.{answer_of}
 use Rattle.repeats.proofs.answer_of.Goals as goal

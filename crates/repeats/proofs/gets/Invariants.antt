@@ -1,13 +1,8 @@
-use mathlib.Core.Path.{◌≡◌, refl, ap, ◌∙◌}
-use Prim.Native.Nat.{ℕ, ◌-◌}
-use native.Mathlib.Omega.{arith}
+use mathlib.Core.Path.{◌≡◌}
+use Prim.Native.Nat.{◌-◌}
 use lib.ListN.{length}
-use Rattle.lookup.specs.Lookup.{leaf_in, element_in}
-use Rattle.lookup.proofs.Found.{element-found}
-use Rattle.requests.specs.Requests.{frame_of}
+use Rattle.lookup.specs.Lookup.{leaf_in}
 use Rattle.repeats.specs.InARow.{InARow, is_get, after_gets}
-use Rattle.repeats.proofs.Repeating.{row-begins, row-goes-on, row-stops, row-over, gets-begin, gets-go-on}
-use mathlib.Core.Bool.{not}
 use Rattle.repeats.proofs.gets.Given as goal
 
 abbrev pub invariant-loop-j : goal.invariant-loop-j

@@ -1,5 +1,4 @@
 use mathlib.Core.Path.{◌∙◌}
-use borrow.Author.Rules.{rules}
 use Rattle.lookup.proofs.Found.{leaf-same}
 use Rattle.repeats.proofs.Repeating.{block_same}
 use Rattle.repeats.proofs.leaf_again.Goals as goal

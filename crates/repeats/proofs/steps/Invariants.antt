@@ -1,14 +1,8 @@
-use mathlib.Core.Path.{◌≡◌, refl, ◌∙◌}
-use Prim.Native.Nat.{◌+◌, ◌-◌}
-use native.Mathlib.Omega.{arith}
+use mathlib.Core.Path.{◌≡◌}
+use Prim.Native.Nat.{◌-◌}
 use lib.ListN.{length}
 use Rattle.walk.specs.Walk.{slices, Walkable}
-use Rattle.requests.specs.Requests.{frame_of}
 use Rattle.repeats.specs.InARow.{InARow, is_step, walked, after_steps}
-use Rattle.repeats.proofs.Repeating.{row-begins, row-goes-on, row-stops, row-over, steps-begin, steps-go-on, walkable-on}
-use Rattle.repeats.proofs.Together.{row-joins, steps-join, walkable-still}
-use mathlib.Core.Path.{ap}
-use mathlib.Core.Bool.{not}
 use Rattle.repeats.proofs.steps.Given as goal
 
 abbrev pub invariant-loop-j : goal.invariant-loop-j

@@ -1,7 +1,6 @@
 use mathlib.Core.Path.{ap, ◌∙◌}
 use Prim.Native.Nat.{ℕ}
 use lib.ListN.{take, drop}
-use borrow.Author.Rules.{rules}
 use Rattle.meaning.specs.Limits.{frame_size}
 use Rattle.meaning.specs.Frames.{decode}
 use Rattle.requests.proofs.Bytes.{frame_is}

@@ -1,4 +1,3 @@
-use borrow.Author.Rules.{rules}
 use Rattle.requests.proofs.Bytes.{number_is}
 use Rattle.requests.proofs.number_at.Goals as goal
 

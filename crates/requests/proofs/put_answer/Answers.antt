@@ -2,7 +2,6 @@ use mathlib.Core.Path.{ap, ◌∙◌}
 use Prim.Native.Nat.{ℕ}
 use native.Mathlib.Omega.{arith}
 use lib.ListN.{length-set}
-use borrow.Author.Rules.{rules}
 use Rattle.meaning.specs.Frames.{encode}
 use Rattle.requests.specs.Requests.{answer_of, put}
 use Rattle.requests.proofs.Bytes.{answer-is}

@@ -1,6 +1,5 @@
 use Rattle.requests.specs.Requests.{frame_of}
 use Rattle.runs.proofs.Stepping.{placed}
-use borrow.Author.Rules.{rules}
 use Rattle.runs.proofs.places_of.Goals as goal
 
 pub returns : goal.returns

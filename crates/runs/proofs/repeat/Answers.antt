@@ -1,4 +1,3 @@
-use borrow.Author.Rules.{rules}
 use Rattle.requests.specs.Requests.{frame_of}
 use Rattle.runs.proofs.Repeated.{repeats-none, gets-asked, repeats-gets, steps-asked, repeats-steps}
 use Rattle.runs.proofs.repeat.Goals as goal

@@ -1,16 +1,11 @@
-use mathlib.Core.Path.{◌≡◌, refl, sym, ap, ◌∙◌}
-use Prim.Native.Nat.{ℕ, ◌-◌, ◌*◌}
+use mathlib.Core.Path.{refl, sym, ap, ◌∙◌}
+use Prim.Native.Nat.{ℕ, ◌*◌}
 use native.Mathlib.Omega.{arith}
 use lib.ListN.{set}
 use Rattle.meaning.specs.Limits.{node_cells}
-use Rattle.records.specs.Records.{record_of, records_of}
-use Rattle.store.specs.Store.{store_of}
-use Rattle.walk.specs.Walk.{slices}
 use Rattle.requests.specs.Requests.{frame_of}
-use Rattle.runs.specs.Runs.{run_of, Progress, progress, Going}
 use Rattle.runs.proofs.Stepping.{record-there, can-turn, turn-steps, begins, goes_on, ends}
 use Rattle.runs.proofs.Repeated.{repeatable, goes-far}
-use borrow.Author.Rules.{rules}
 use Rattle.runs.proofs.run.Goals as goal
 
 pub loop-k-init : goal.loop-k-init

@@ -1,6 +1,5 @@
 use Rattle.requests.specs.Requests.{frame_of}
 use Rattle.runs.proofs.Stepping.{picked, turnable-for, turn-for}
-use borrow.Author.Rules.{rules}
 use Rattle.runs.proofs.serve.Goals as goal
 
 pub serve-requires : goal.serve-requires

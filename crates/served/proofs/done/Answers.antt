@@ -1,4 +1,3 @@
-use borrow.Author.Rules.{rules}
 use Rattle.served.proofs.done.Goals as goal
 
 pub returns : goal.returns

@@ -1,5 +1,4 @@
 use Rattle.served.proofs.Answering.{edited-is}
-use borrow.Author.Rules.{rules}
 use Rattle.served.proofs.of_edited.Goals as goal
 
 pub returns-in-Done : goal.returns-in-Done

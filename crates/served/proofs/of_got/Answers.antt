@@ -1,5 +1,4 @@
 use Rattle.served.proofs.Answering.{got-is}
-use borrow.Author.Rules.{rules}
 use Rattle.served.proofs.of_got.Goals as goal
 
 pub returns-in-Element : goal.returns-in-Element

@@ -1,5 +1,4 @@
 use Rattle.served.proofs.Answering.{less-is, equal_is, greater-is}
-use borrow.Author.Rules.{rules}
 use Rattle.served.proofs.of_ordering.Goals as goal
 
 pub returns-in-Less : goal.returns-in-Less

@@ -1,5 +1,4 @@
 use Rattle.turns.proofs.Turning.{walk_inside, walk-opens}
-use borrow.Author.Rules.{rules}
 use Rattle.turns.proofs.is_open.Goals as goal
 
 pub bounds-numbers-n : goal.bounds-numbers-n

@@ -2,7 +2,6 @@ use mathlib.Core.Path.{sym, ◌∙◌}
 use Rattle.records.specs.Records.{record_of}
 use Rattle.requests.specs.Requests.{frame_of}
 use Rattle.turns.proofs.Turning.{entry-is, turn-refuses, turn-acts}
-use borrow.Author.Rules.{rules}
 use Rattle.turns.proofs.serve.Goals as goal
 
 pub returns-then-number-ne-DONE : goal.returns-then-number-ne-DONE

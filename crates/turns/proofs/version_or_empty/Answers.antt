@@ -1,4 +1,3 @@
-use borrow.Author.Rules.{rules}
 use Rattle.turns.proofs.version_or_empty.Goals as goal
 
 pub returns-then-there : goal.returns-then-there

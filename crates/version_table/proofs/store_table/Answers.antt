@@ -1,8 +1,8 @@
 use borrow.Author.Rules.{rules}
 use lib.ListN.{length}
 use mathlib.Core.Path.{◌≡◌}
-use Rattle.version_table.specs.Tables.{copies, stored}
-use Rattle.version_table.proofs.Copying.{Copied, over, whole}
+use Rattle.version_table.specs.Tables.{copies}
+use Rattle.version_table.proofs.Copying.{over, whole}
 use Rattle.version_table.proofs.store_table.Goals as goal
 
 pub returns : goal.returns

@@ -1,8 +1,8 @@
 use lib.ListN.{length}
 use mathlib.Core.Bool.{true}
-use mathlib.Core.Path.{◌≡◌, ap, ◌∙◌, refl}
-use Rattle.version_table.specs.Tables.{copies, blanks, table_of}
-use Rattle.version_table.proofs.Copying.{Copied, over, whole}
+use mathlib.Core.Path.{refl}
+use Rattle.version_table.specs.Tables.{copies, blanks}
+use Rattle.version_table.proofs.Copying.{over, whole}
 use Rattle.version_table.proofs.table_of.Goals as goal
 
 pub returns : goal.returns

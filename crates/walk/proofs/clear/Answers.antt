@@ -1,10 +1,5 @@
-use mathlib.Core.Path.{◌≡◌, refl}
-use Prim.Native.Nat.{◌*◌, ◌-◌, ◌≤◌}
+use mathlib.Core.Path.{refl}
 use native.Mathlib.Omega.{arith}
-use borrow.Author.Rules.{rules}
-use Rattle.meaning.specs.Limits.{walk_levels}
-use Rattle.level.specs.Level.{levels}
-use Rattle.walk.specs.Walk.{cleared_from}
 use Rattle.walk.proofs.WalkLaws.{clears-all, clears-on, all-clear}
 use Rattle.walk.proofs.clear.Goals as goal
 

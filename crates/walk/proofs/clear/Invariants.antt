@@ -1,11 +1,8 @@
-use mathlib.Core.Path.{◌≡◌, refl}
+use mathlib.Core.Path.{◌≡◌}
 use Prim.Native.Nat.{◌*◌, ◌-◌, ◌≤◌}
-use native.Mathlib.Omega.{arith}
-use borrow.Author.Rules.{rules}
 use Rattle.meaning.specs.Limits.{walk_levels}
 use Rattle.level.specs.Level.{levels}
 use Rattle.walk.specs.Walk.{cleared_from}
-use Rattle.walk.proofs.WalkLaws.{clears-all, clears-on, all-clear}
 use Rattle.walk.proofs.clear.Given as goal
 
 abbrev pub invariant-loop-j : goal.invariant-loop-j

@@ -1,6 +1,5 @@
 use Rattle.walk.proofs.WalkLaws.{closes}
 use mathlib.Core.Path.{refl}
-use borrow.Author.Rules.{rules}
 use Rattle.walk.proofs.close.Goals as goal
 
 pub returns : goal.returns

@@ -1,5 +1,4 @@
 use Rattle.walk.proofs.LeafLaws.{count-on, pass-within, passes_on}
-use borrow.Author.Rules.{rules}
 use Rattle.walk.proofs.pass_on.Goals as goal
 
 pub overflow_add-taken : goal.overflow_add-taken

@@ -1,5 +1,4 @@
 use Rattle.walk.proofs.WalkLaws.{side-is}
-use borrow.Author.Rules.{rules}
 use Rattle.walk.proofs.side.Goals as goal
 
 pub returns : goal.returns

@@ -1,6 +1,5 @@
 use Rattle.walk.proofs.WalkLaws.{stores}
 use Rattle.records.specs.Records.{record_of}
-use borrow.Author.Rules.{rules}
 use Rattle.walk.proofs.store.Goals as goal
 
 pub returns : goal.returns

@@ -1,5 +1,4 @@
 use Rattle.walk.proofs.LeafLaws.{stretch-is}
-use borrow.Author.Rules.{rules}
 use Rattle.walk.proofs.stretch_in_leaf.Goals as goal
 
 pub returns : goal.returns

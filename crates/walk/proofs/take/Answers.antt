@@ -1,5 +1,4 @@
 use Rattle.walk.proofs.WalkLaws.{has-stack, count_fits, takes-nothing, takes_one}
-use borrow.Author.Rules.{rules}
 use Rattle.walk.proofs.take.Goals as goal
 
 pub returns-then-ended : goal.returns-then-ended

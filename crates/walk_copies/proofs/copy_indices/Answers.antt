@@ -1,8 +1,7 @@
-use Prim.Native.Nat.{◌-◌}
 use mir.Facts.{to_z-of_z}
 use mir.Syntax.{w32}
 use borrow.Author.Rules.{rules}
-use Rattle.walk_copies.proofs.Copying.{Copied, copy-starts, copy-turn, copy-ends}
+use Rattle.walk_copies.proofs.Copying.{copy-starts, copy-turn, copy-ends}
 use Rattle.walk_copies.proofs.copy_indices.Goals as goal
 
 -- `walk_copies::copy_indices` meets its contract.

@@ -1,7 +1,5 @@
 use Prim.Native.Nat.{◌-◌}
-use mir.Facts.{to_z-of_z}
-use borrow.Author.Rules.{rules}
-use Rattle.walk_copies.proofs.Copying.{Copied, copy-starts, copy-turn, copy-ends}
+use Rattle.walk_copies.proofs.Copying.{Copied}
 use Rattle.walk_copies.proofs.copy_indices.Given as goal
 
 abbrev pub invariant-loop-i : goal.invariant-loop-i

@@ -1,7 +1,6 @@
 use mathlib.Core.Path.{refl}
-use Prim.Native.Nat.{◌-◌}
 use borrow.Author.Rules.{rules}
-use Rattle.walk_copies.proofs.Copying.{Copied, copy-starts, copy-turn, copy-ends}
+use Rattle.walk_copies.proofs.Copying.{copy-starts, copy-turn, copy-ends}
 use Rattle.walk_copies.proofs.copy_words.Goals as goal
 
 -- `walk_copies::copy_words` meets its contract.

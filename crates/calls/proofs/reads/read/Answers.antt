@@ -1,6 +1,5 @@
 use Rattle.requests.specs.Requests.{frame_of}
 use Rattle.calls.proofs.Acting.{get-sourced, first-sourced, last-sourced, compare-sourced, get-reads, len-reads, first_reads, last-reads, compare-reads, free-reads}
-use borrow.Author.Rules.{rules}
 use Rattle.calls.proofs.reads.read.Goals as goal
 
 pub get-requires : goal.get-requires

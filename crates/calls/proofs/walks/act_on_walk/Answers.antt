@@ -1,7 +1,6 @@
 use Rattle.records.specs.Records.{record_of}
 use Rattle.requests.specs.Requests.{frame_of}
 use Rattle.calls.proofs.Acting.{open-acts, close-acts, step-acts}
-use borrow.Author.Rules.{rules}
 use Rattle.calls.proofs.walks.act_on_walk.Goals as goal
 
 pub open-requires : goal.open-requires

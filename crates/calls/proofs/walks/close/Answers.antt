@@ -1,6 +1,5 @@
 use mathlib.Core.Path.{refl}
 use Rattle.calls.proofs.Acting.{root-releases, closes}
-use borrow.Author.Rules.{rules}
 use Rattle.calls.proofs.walks.close.Goals as goal
 
 pub release-left-requires : goal.release-left-requires

@@ -1,5 +1,4 @@
 use Rattle.calls.proofs.Acting.{steps}
-use borrow.Author.Rules.{rules}
 use Rattle.calls.proofs.walks.step.Goals as goal
 
 pub returns : goal.returns

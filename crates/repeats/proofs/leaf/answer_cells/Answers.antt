@@ -1,9 +1,6 @@
-use mathlib.Core.Path.{◌≡◌, refl, ◌∙◌}
-use Prim.Native.Nat.{◌-◌, ◌≤◌}
+use mathlib.Core.Path.{refl, ◌∙◌}
 use native.Mathlib.Omega.{arith}
-use lib.ListN.{length}
 use Rattle.requests.specs.Requests.{frame_of}
-use Rattle.repeats.specs.InARow.{InARow, is_step, after_cells}
 use Rattle.repeats.proofs.Repeating.{row-begins, row-goes-on}
 use Rattle.repeats.proofs.Together.{cells-begin, cells-go-on, within-before}
 use mathlib.Core.Path.{ap}

@@ -1,13 +1,7 @@
-use mathlib.Core.Path.{◌≡◌, refl, ◌∙◌}
+use mathlib.Core.Path.{◌≡◌}
 use Prim.Native.Nat.{◌-◌, ◌≤◌}
-use native.Mathlib.Omega.{arith}
 use lib.ListN.{length}
-use Rattle.requests.specs.Requests.{frame_of}
 use Rattle.repeats.specs.InARow.{InARow, is_step, after_cells}
-use Rattle.repeats.proofs.Repeating.{row-begins, row-goes-on}
-use Rattle.repeats.proofs.Together.{cells-begin, cells-go-on, within-before}
-use mathlib.Core.Path.{ap}
-use mathlib.Core.Bool.{not}
 use Rattle.repeats.proofs.leaf.answer_cells.Given as goal
 
 abbrev pub invariant-loop-j : goal.invariant-loop-j

@@ -1,7 +1,6 @@
 use native.Mathlib.Omega.{arith}
 use Rattle.repeats.proofs.Repeating.{row-begins, steps-begin}
 use Rattle.repeats.proofs.Together.{stays_within, can-pass, leaf-steps}
-use borrow.Author.Rules.{rules}
 use Rattle.repeats.proofs.leaf.steps_in_leaf.Goals as goal
 
 pub version-v-requires : goal.version-v-requires
