@@ -1,7 +1,7 @@
 #!/usr/bin/env python3
 """Spells this repository's own definitions and lemmas as today's Rattle does: words in snake case, modules in camel case.
 
-usage: python3 tools/spell.py      once, at the top, right after /opt/rattle/port/port.py
+usage: python3 tools/spell.py      once, at the top, right after the kit's port/port.py
 
 Text alone: it proves nothing. Functions of src/, exported C names, strings and inputs are in snake case already and stay.
 A name of a number (`FREE`) that is also a constant of src/ would mean that constant in a clause; each gets a word of what it numbers.
