@@ -3,42 +3,48 @@
 
 ghost use Rattle.std.specs.Prelude.{◌≡◌, ◌&&◌, ◌+◌, ◌*◌, ◌<◌, ◌≤◌, eqb, pos, get_or, set};
 ghost use Rattle.meaning.specs.Limits.{node_cells, walk_count};
+ghost use Rattle.meaning.specs.Lent.{kind_of, used_of, cell_of};
 ghost use Rattle.records.specs.Records.{record_of};
 ghost use Rattle.audit_model.specs.Made.{walk_version};
 ghost use Rattle.audit_model.specs.Records.{is_index};
+ghost use Rattle.audit_reads.specs.Slices.{nodes_in};
 
-pub fn byte_at(s: &[u8], n: usize) -> u32
-    ensures { (result ≡ get_or s.now n 0) × (result ≤ 255) }
-{
-    let len = s.len();
-    if n < len {
-        return s[n] as u32;
-    }
-    0
+// What is lent of the nodes.
+#[derive(Clone, Copy)]
+pub struct Nodes<'a> {
+    pub kinds: &'a [u8],
+    pub used: &'a [u8],
+    pub cells: &'a [u32],
 }
 
-pub fn word_at(s: &[u32], n: usize) -> u32
-    ensures { result ≡ get_or s.now n 0 }
-{
-    let len = s.len();
-    if n < len {
-        return s[n];
-    }
-    0
+// What is lent of the walks.
+#[derive(Clone, Copy)]
+pub struct Walks<'a> {
+    pub numbers: &'a [u32],
+    pub nodes: &'a [u32],
+    pub indices: &'a [i32],
 }
 
-// Cell i of node n.
-pub fn cell_at(cells: &[u32], n: u32, i: u32) -> u32
-    ensures { result ≡ get_or cells.now (node_cells * n + i) 0 }
+// All that is lent.
+#[derive(Clone, Copy)]
+pub struct Lent<'a> {
+    pub nodes: Nodes<'a>,
+    pub counts: &'a [u32],
+    pub order: &'a [u32],
+    pub versions: &'a [records::Version; limits::VERSIONS],
+    pub walks: Walks<'a>,
+}
+
+pub fn at<T: Copy>(s: &[T], n: usize, default: T) -> T
+    ensures { result ≡ get_or s.now n default }
 {
-    word_at(cells, limits::NODE_CELLS * n as usize + i as usize)
+    s.get(n).copied().unwrap_or(default)
 }
 
 pub fn put_at(t: &mut [u32], n: usize, x: u32)
     ensures { t.new ≡ set t.old n x }
 {
-    let len = t.len();
-    if n < len {
+    if n < t.len() {
         t[n] = x;
     }
 }
@@ -48,11 +54,72 @@ pub fn index_is(s: &[i32], n: usize, index: u32) -> bool
     requires { index < node_cells }
     ensures { result ≡ is_index (get_or s.now n (pos 0)) index }
 {
-    let len = s.len();
-    if n < len {
-        return s[n] == index as i32;
+    at(s, n, 0) == index as i32
+}
+
+impl<'a> Nodes<'a> {
+    pub fn kind(self, n: u32) -> u8
+        ensures { result ≡ kind_of (nodes_in self.entry) n }
+    {
+        at(self.kinds, n as usize, 0)
     }
-    0 == index
+
+    pub fn used(self, n: u32) -> u8
+        ensures { result ≡ used_of (nodes_in self.entry) n }
+    {
+        at(self.used, n as usize, 0)
+    }
+
+    pub fn cell(self, n: u32, i: u32) -> u32
+        ensures { result ≡ cell_of (nodes_in self.entry) n i }
+    {
+        at(self.cells, limits::NODE_CELLS * n as usize + i as usize, 0)
+    }
+}
+
+impl<'a> Walks<'a> {
+    // Whether a place of the levels holds that node and index.
+    pub fn level_is(self, place: usize, node: u32, index: u32) -> bool
+        requires { index < node_cells }
+        ensures { result ≡ (eqb (get_or self.entry.nodes.now place 0) node && is_index (get_or self.entry.indices.now place (pos 0)) index) }
+    {
+        let same = at(self.nodes, place, 0) == node;
+        let right = index_is(self.indices, place, index);
+        same & right
+    }
+
+    // What walk n walks.
+    pub fn version(self, n: usize) -> records::Version
+        requires { n < walk_count }
+        ensures { record_of result ≡ walk_version self.entry.numbers.now n }
+    {
+        let first = limits::WALK_NUMBERS * n;
+        records::Version {
+            live: at(self.numbers, first, 0),
+            root: at(self.numbers, first + 1, 0),
+            bits: at(self.numbers, first + 2, 0),
+            length: at(self.numbers, first + 3, 0),
+        }
+    }
+}
+
+pub fn byte_at(s: &[u8], n: usize) -> u32
+    ensures { (result ≡ get_or s.now n 0) × (result ≤ 255) }
+{
+    at(s, n, 0) as u32
+}
+
+pub fn word_at(s: &[u32], n: usize) -> u32
+    ensures { result ≡ get_or s.now n 0 }
+{
+    at(s, n, 0)
+}
+
+// Cell i of node n.
+pub fn cell_at(cells: &[u32], n: u32, i: u32) -> u32
+    ensures { result ≡ get_or cells.now (node_cells * n + i) 0 }
+{
+    word_at(cells, limits::NODE_CELLS * n as usize + i as usize)
 }
 
 // Whether a place of the walks' levels holds that node and index.
@@ -60,9 +127,12 @@ pub fn level_is(nodes: &[u32], indices: &[i32], place: usize, node: u32, index: 
     requires { index < node_cells }
     ensures { result ≡ (eqb (get_or nodes.now place 0) node && is_index (get_or indices.now place (pos 0)) index) }
 {
-    let same = word_at(nodes, place) == node;
-    let right = index_is(indices, place, index);
-    same & right
+    let walks = Walks {
+        numbers: &[],
+        nodes: nodes,
+        indices: indices,
+    };
+    walks.level_is(place, node, index)
 }
 
 // What walk n walks.
@@ -70,15 +140,10 @@ pub fn version_of(numbers: &[u32], n: usize) -> records::Version
     requires { n < walk_count }
     ensures { record_of result ≡ walk_version numbers.now n }
 {
-    let first = limits::WALK_NUMBERS * n;
-    let live = word_at(numbers, first);
-    let root = word_at(numbers, first + 1);
-    let bits = word_at(numbers, first + 2);
-    let length = word_at(numbers, first + 3);
-    records::Version {
-        live: live,
-        root: root,
-        bits: bits,
-        length: length,
-    }
+    let walks = Walks {
+        numbers: numbers,
+        nodes: &[],
+        indices: &[],
+    };
+    walks.version(n)
 }
