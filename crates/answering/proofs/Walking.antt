@@ -1,4 +1,5 @@
 -- A turn of an operation on a walk.
+use Rattle.std.specs.Prelude.{Some, None}
 use mathlib.Core.Path.{◌≡◌, refl, ap}
 use mathlib.Core.Bool.{Bool, true, false, cond}
 use mathlib.Core.List.{[], ◌∷◌}
@@ -15,7 +16,6 @@ use Rattle.meaning.specs.Costs.{plain, priced, cost}
 use Rattle.meaning.specs.Supply.{is_short}
 use Rattle.meaning.specs.Checks.{no_fault, faults, any_field, nothing_there, is_full, ◌if◌, find_checks, nodes_check, first_of}
 use Rattle.meaning.specs.Serve.{refused}
-use Rattle.lookup.specs.declared.Got.TheVariants.{Element, Nothing}
 use Rattle.store.specs.Store.{raised}
 use Rattle.sweep.specs.Sweep as sweep
 use Rattle.levels.specs.Levels.{Taken}
@@ -75,10 +75,10 @@ module _ (r : Run) (f : Frame) where
         by (is_ended r.walks.numbers place) (walk.slices counted t.levels.nodes t.levels.indices) t.element
       where
         by : (b : Bool) (ws : WalkSlices) (x : ℕ)
-            → respond (cond b 8 0) r (answers (run r.store r.versions (cond b (stepped r.walks Nothing) (stepped ws (Element x))).slices) (got_of (cond b (stepped r.walks Nothing) (stepped ws (Element x))).answer))
+            → respond (cond b 8 0) r (answers (run r.store r.versions (cond b (stepped r.walks None) (stepped ws (Some x))).slices) (got_of (cond b (stepped r.walks None) (stepped ws (Some x))).answer))
             ≡ turned r f
-            (with_walks (acted r.store (old_in r f) (answer_of (cond b (stepped r.walks Nothing) (stepped ws (Element x))).answer))
-            (cond b (stepped r.walks Nothing) (stepped ws (Element x))).slices)
+            (with_walks (acted r.store (old_in r f) (answer_of (cond b (stepped r.walks None) (stepped ws (Some x))).answer))
+            (cond b (stepped r.walks None) (stepped ws (Some x))).slices)
         by true ws x = refuses r f (answers r 0) 7
         by false ws x = let none : r.store.free - r.store.free ≡ 0 = omega arith in rw (none, stays r f)
 

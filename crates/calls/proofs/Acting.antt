@@ -1,4 +1,5 @@
 -- What the code makes of each operation is the model's.
+use Rattle.std.specs.Prelude.{Option, Some, None}
 use mathlib.Core.Path.{◌≡◌, refl, sym, ap, ◌∙◌}
 use mathlib.Core.Logic.{◌≢◌}
 use mathlib.Core.Bool.{Bool, true, false, cond, ◌||◌, false≢true}
@@ -13,8 +14,6 @@ use Rattle.meaning.specs.Serve.{refused}
 use Rattle.meaning.specs.Operations.{operations, anyone, host_alone, uses}
 use Rattle.records.specs.Records.{record_of}
 use Rattle.records.specs.declared.Version.{Version}
-use Rattle.lookup.specs.declared.Got.{Got}
-use Rattle.lookup.specs.declared.Got.TheVariants.{Element, Nothing}
 use Rattle.lookup.specs.Lookup.{got}
 use Rattle.compare.specs.Compare.{ordering}
 use Rattle.compare.specs.declared.Ordering.{Ordering}
@@ -73,9 +72,9 @@ module _ (n : ℕ) where
 -- ---- reads
 
 module _ (cells : List ℕ) (free : ℕ) (f : Frame) (v w old : Version) (r : Served) where
-  pub get-reads : f.operation ≡ get_code → (g : Got) → g ≡ got cells v f.index → r ≡ got_with g free old → r ≡ read_with cells free f v w old
+  pub get-reads : f.operation ≡ get_code → (g : Option ℕ) → g ≡ got cells v f.index → r ≡ got_with g free old → r ≡ read_with cells free f v w old
   unfolding read_with
-  get-reads t g p q = rw (eq-eqb f.operation get_code t) (q ∙ ap (λ (x : Got). got_with x free old) p)
+  get-reads t g p q = rw (eq-eqb f.operation get_code t) (q ∙ ap (λ (x : Option ℕ). got_with x free old) p)
 
   module _ (not_get : f.operation ≢ get_code) where
     pub len-reads : f.operation ≡ len_code → (n : ℕ) → n ≡ v.length → r ≡ answered_with n free old → r ≡ read_with cells free f v w old
@@ -83,16 +82,16 @@ module _ (cells : List ℕ) (free : ℕ) (f : Frame) (v w old : Version) (r : Se
     len-reads t n p q = rw (ne_eqb f.operation get_code not_get, eq-eqb f.operation len_code t) (q ∙ ap (λ (x : ℕ). answered_with x free old) p)
 
     module _ (not_len : f.operation ≢ len_code) where
-      pub first_reads : f.operation ≡ first_code → (g : Got) → g ≡ got cells v 0 → r ≡ got_with g free old → r ≡ read_with cells free f v w old
+      pub first_reads : f.operation ≡ first_code → (g : Option ℕ) → g ≡ got cells v 0 → r ≡ got_with g free old → r ≡ read_with cells free f v w old
       unfolding read_with
-      first_reads t g p q = rw (ne_eqb f.operation get_code not_get, ne_eqb f.operation len_code not_len, eq-eqb f.operation first_code t) (q ∙ ap (λ (x : Got). got_with x free old) p)
+      first_reads t g p q = rw (ne_eqb f.operation get_code not_get, ne_eqb f.operation len_code not_len, eq-eqb f.operation first_code t) (q ∙ ap (λ (x : Option ℕ). got_with x free old) p)
 
       module _ (not_first : f.operation ≢ first_code) where
-        pub last-reads : f.operation ≡ last_code → (g : Got) → g ≡ got cells v (v.length - 1) → r ≡ got_with g free old → r ≡ read_with cells free f v w old
+        pub last-reads : f.operation ≡ last_code → (g : Option ℕ) → g ≡ got cells v (v.length - 1) → r ≡ got_with g free old → r ≡ read_with cells free f v w old
         unfolding read_with
         last-reads t g p q =
             rw (ne_eqb f.operation get_code not_get, ne_eqb f.operation len_code not_len, ne_eqb f.operation first_code not_first, eq-eqb f.operation last_code t)
-            (q ∙ ap (λ (x : Got). got_with x free old) p)
+            (q ∙ ap (λ (x : Option ℕ). got_with x free old) p)
 
         module _ (not_last : f.operation ≢ last_code) where
           pub compare-reads : f.operation ≡ compare_code → (o : Ordering) → o ≡ ordering cells v w → r ≡ ordered_with o free old → r ≡ read_with cells free f v w old
@@ -123,7 +122,7 @@ closes s ws n old v left after walks_after r p q h t f =
       answer = t ∙ ap (λ (k : ℕ). answered_with 0 k old) same;
     }
 
-pub steps : (t : Step) (free : ℕ) (old : Version) (walks_after : WalkSlices) (g : Got) (r : Served) → stepped walks_after g ≡ t → r ≡ got_with g free old → Steps t free old walks_after r
+pub steps : (t : Step) (free : ℕ) (old : Version) (walks_after : WalkSlices) (g : Option ℕ) (r : Served) → stepped walks_after g ≡ t → r ≡ got_with g free old → Steps t free old walks_after r
 steps t free old walks_after g r p q = record { walks = ap (λ (x : Step). x.slices) p; answer = q ∙ ap (λ (x : Step). got_with x.answer free old) p }
 
 module _ (s : Store) (ws : WalkSlices) (f : Frame) (v : VersionRecord) (old : Version) (r : Served) where
@@ -137,21 +136,21 @@ module _ (s : Store) (ws : WalkSlices) (f : Frame) (v : VersionRecord) (old : Ve
   unfolding walk_act
   close-acts after walks_after n e m t o = rw (ne_eqb f.operation open_walk_code m, eq-eqb f.operation close_walk_code t, o.answer, o.store, o.walks, e)
 
-  got-answers : (free : ℕ) (g : Got) → acted_of s (got_with g free old) ≡ record { store = s; version = record_of old; answer = answer_of g }
+  got-answers : (free : ℕ) (g : Option ℕ) → acted_of s (got_with g free old) ≡ record { store = s; version = record_of old; answer = answer_of g }
   unfolding answer_of refused
-  got-answers free (Element x) = refl
-  got-answers free Nothing = refl
+  got-answers free (Some x) = refl
+  got-answers free None = refl
 
-  got-free : (free : ℕ) (g : Got) → (got_with g free old).free ≡ free
-  got-free free (Element x) = refl
-  got-free free Nothing = refl
+  got-free : (free : ℕ) (g : Option ℕ) → (got_with g free old).free ≡ free
+  got-free free (Some x) = refl
+  got-free free None = refl
 
   pub step-acts : (walks_after : WalkSlices) (n : ℕ) → n ≡ used_place f → f.operation ≢ open_walk_code → f.operation ≢ close_walk_code
       → Steps (taken_by s.nodes.cells s.nodes.used (eqb f.operation next_back_code) ws n) s.free old walks_after r
       → with_walks (acted_of (record { nodes = s.nodes; counts = s.counts; order = s.order; free = r.free }) r) walks_after ≡ walk_act s ws f v (record_of old)
   unfolding walk_act
   step-acts walks_after n e l m o =
-      let g : Got = (taken_by s.nodes.cells s.nodes.used (eqb f.operation next_back_code) ws n).answer in
+      let g : Option ℕ = (taken_by s.nodes.cells s.nodes.used (eqb f.operation next_back_code) ws n).answer in
       rw (ne_eqb f.operation open_walk_code l, ne_eqb f.operation close_walk_code m, o.answer, o.walks, got-free s.free g, got-answers s.free g, e)
 
 -- ---- what reads leave as it was
@@ -160,9 +159,9 @@ module _ (free : ℕ) (old : Version) where
   abbrev Leaves : Served → Type 0
   Leaves r = (r.free ≡ free) × (r.version ≡ old)
 
-  got-leaves : (g : Got) → Leaves (got_with g free old)
-  got-leaves (Element x) = (refl, refl)
-  got-leaves Nothing = (refl, refl)
+  got-leaves : (g : Option ℕ) → Leaves (got_with g free old)
+  got-leaves (Some x) = (refl, refl)
+  got-leaves None = (refl, refl)
 
   read-leaves : (cells : List ℕ) (f : Frame) (v w : Version) → Leaves (read_with cells free f v w old)
   unfolding read_with

@@ -1,12 +1,10 @@
 -- What the operations on walks make of the store and of the walk records.
-use Rattle.std.specs.Prelude.{◌≡◌, ◌≢◌, cond, List, [], ◌∷◌, ℕ, ◌+◌, ◌*◌, ◌%◌, eqb}
+use Rattle.std.specs.Prelude.{◌≡◌, ◌≢◌, cond, List, [], ◌∷◌, ℕ, ◌+◌, ◌*◌, ◌%◌, eqb, Option, Some, None}
 use Rattle.meaning.specs.Limits.{parties, party_walks, open_walk_code, next_back_code, close_walk_code, nothing_there_number}
 use Rattle.meaning.specs.Lent.{VersionRecord, WalkSlices}
 use Rattle.meaning.specs.Frames.{Frame, Answer}
 use Rattle.meaning.specs.Serve.{refused}
 use Rattle.records.specs.declared.Version.{Version}
-use Rattle.lookup.specs.declared.Got.{Got}
-use Rattle.lookup.specs.declared.Got.TheVariants.{Element, Nothing}
 use Rattle.store.specs.Store.{Store, raise, raised}
 use Rattle.sweep.specs.Ready.{Releasable}
 use Rattle.sweep.specs.Sweep as sweep
@@ -59,9 +57,9 @@ pub record WalkActed : Type 0 where
 abbrev pub with_walks : Acted → WalkSlices → WalkActed
 with_walks a ws = record { acted = a; walks = ws }
 
-unfoldable pub answer_of : Got → Answer
-answer_of (Element x) = valued x
-answer_of Nothing = refused nothing_there_number
+unfoldable pub answer_of : Option ℕ → Answer
+answer_of (Some x) = valued x
+answer_of None = refused nothing_there_number
 
 abbrev pub acted : Store → VersionRecord → Answer → Acted
 acted s v a = record { store = s; version = v; answer = a }

@@ -1,5 +1,5 @@
 -- What a frame makes of a running state, exact to the last cell, and what it is answered.
-use Rattle.std.specs.Prelude.{Bool, true, false, List, [], ◌∷◌, ℕ, zero, suc, ◌-◌, set}
+use Rattle.std.specs.Prelude.{Bool, true, false, List, [], ◌∷◌, ℕ, zero, suc, ◌-◌, set, Option, Some, None}
 use Rattle.meaning.specs.Limits.{done_number}
 use Rattle.meaning.specs.Lent.{VersionRecord, empty_record, WalkSlices}
 use Rattle.meaning.specs.Trees.{height_of, element, contents}
@@ -8,8 +8,6 @@ use Rattle.meaning.specs.Operations.{Op, new, clone, release, len, get, set_at, 
 use Rattle.meaning.specs.Checks.{checks, first_of}
 use Rattle.meaning.specs.Effects.{order, signed}
 use Rattle.meaning.specs.Serve.{refused}
-use Rattle.lookup.specs.declared.Got.{Got}
-use Rattle.lookup.specs.declared.Got.TheVariants.{Element, Nothing}
 use Rattle.store.specs.Store.{Store, raised}
 use Rattle.sweep.specs.Sweep as sweep
 use Rattle.paths.specs.Edits.{Edit, new_edit, share_edit, set_edit, push_edit, drop_edit}
@@ -46,9 +44,9 @@ opens r f =
     let v = source_in r f in
     answers (run (raised r.store (v.root ∷ [])) r.versions (walk.opened r.walks (walk_place (taker f) f.destination) v)) 0
 
-unfoldable pub got_of : Got → ℕ
-got_of (Element x) = x
-got_of Nothing = 0
+unfoldable pub got_of : Option ℕ → ℕ
+got_of (Some x) = x
+got_of None = 0
 
 unfoldable pub takes : Run → Frame → (back : Bool) → Served
 takes r f back =

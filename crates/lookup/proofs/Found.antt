@@ -8,7 +8,6 @@ use native.Mathlib.Omega.{arith}
 use lib.Bits.{bit_and}
 use lib.Pow.{pow-add}
 use lib.ListN.{length, get_or}
-use borrow.Author.Tests.{lt-ltb, le-ltb}
 use Rattle.meaning.specs.Limits.{node_cells, max_bits}
 use Rattle.meaning.specs.Lent.{Nodes}
 use Rattle.meaning.specs.Lent.{VersionRecord}
@@ -16,10 +15,7 @@ use Rattle.meaning.specs.Shape.{degree, mask, bucket}
 use Rattle.meaning.specs.Trees.{height_of, element, contents}
 use Rattle.meaning.proofs.Rows.{rows-length, rows_at}
 use Rattle.shape.proofs.Computed.{bucket-computed}
-use Rattle.records.specs.Records.{record_of}
-use Rattle.records.specs.declared.Version.{Version}
-use Rattle.lookup.specs.Lookup.{leaf_in, element_in, got}
-use Rattle.lookup.specs.declared.Got.TheVariants.{Element, Nothing}
+use Rattle.lookup.specs.Lookup.{leaf_in, element_in}
 
 -- ---- the descent
 
@@ -98,16 +94,6 @@ unfolding leaf_in
 leaf-same cells bits zero n i j e = refl
 leaf-same cells bits (suc h) n i j e =
     ap (λ (b : ℕ). leaf_in cells bits h (get_or cells (node_cells * n + b) 0) i) (bucket-same bits h i j e) ∙ leaf-same cells bits h _ i j e
-
--- ---- the answer
-
-pub got-found : (cells : List ℕ) (v : Version) (i : ℕ) (x : ℕ) → i < v.length → x ≡ element_in cells v.bits (height_of (record_of v)) v.root i → Element x ≡ got cells v i
-unfolding got
-got-found cells v i x l e = rw (lt-ltb i v.length l, e)
-
-pub got-nothing : (cells : List ℕ) (v : Version) (i : ℕ) → v.length ≤ i → Nothing ≡ got cells v i
-unfolding got
-got-nothing cells v i l = rw (le-ltb i v.length l)
 
 -- ---- the contents
 

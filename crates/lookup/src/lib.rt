@@ -63,36 +63,30 @@ pub fn len(v: Version) -> u32
     v.length
 }
 
-#[derive(Clone, Copy)]
-pub enum Got {
-    Element(u32),
-    Nothing,
-}
-
-pub fn get(cells: &[u32], v: Version, index: u32) -> Got
+#[tactic(auto, unfolding(crate::specs::Lookup::got))]
+pub fn get(cells: &[u32], v: Version, index: u32) -> Option<u32>
     requires { Legal v.bits v.length }
     ensures { result ≡ got cells.now v index }
 {
     if index < v.length {
         let h = shape::height(v.bits, v.length);
-        return Got::Element(element(cells, v.bits, h, NodeNo(v.root), index));
+        return Some(element(cells, v.bits, h, NodeNo(v.root), index));
     }
-    Got::Nothing
+    None
 }
 
-pub fn first(cells: &[u32], v: Version) -> Got
+pub fn first(cells: &[u32], v: Version) -> Option<u32>
     requires { Legal v.bits v.length }
     ensures { result ≡ got cells.now v 0 }
 {
     get(cells, v, 0)
 }
 
-pub fn last(cells: &[u32], v: Version) -> Got
+#[tactic(auto, unfolding(crate::specs::Lookup::got))]
+pub fn last(cells: &[u32], v: Version) -> Option<u32>
     requires { Legal v.bits v.length }
     ensures { result ≡ got cells.now v (v.length - 1) }
 {
-    if v.length == 0 {
-        return Got::Nothing;
-    }
-    get(cells, v, v.length - 1)
+    let end = v.length.checked_sub(1)?;
+    get(cells, v, end)
 }

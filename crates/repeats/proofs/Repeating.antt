@@ -1,4 +1,5 @@
 -- One frame more in a row, and what it makes of the room and the walks.
+use Rattle.std.specs.Prelude.{Option}
 use mathlib.Core.Path.{◌≡◌, refl, sym, ap, ◌∙◌}
 use mathlib.Core.Bool.{Bool, true, false, not, false≢true}
 use mathlib.Core.List.{List, [], ◌∷◌}
@@ -21,7 +22,6 @@ use Rattle.meaning.specs.Frames.{Frame, Answer, encode}
 use Rattle.records.specs.Records.{record_of}
 use Rattle.records.specs.declared.Version.{Version}
 use Rattle.lookup.specs.Lookup.{element_in}
-use Rattle.lookup.specs.declared.Got.{Got}
 use Rattle.walk.specs.Walk as walk
 use Rattle.walk.specs.Walk.{number_at, is_ended, Walkable, taken_by}
 use Rattle.requests.specs.Requests.{put, frame_in, answer_place}
@@ -92,7 +92,7 @@ module _ (cells used : List ℕ) (back : Bool) (n : ℕ) (w : Walked) (k : ℕ) 
   unfolding after_steps
   steps-begin = let none : k - k ≡ 0 = omega arith in rw none
 
-  pub steps-go-on : (j : ℕ) (ws after : WalkSlices) (room room_after : List ℕ) (g : Got) (a : Answer) → k ≤ j → walked ws room ≡ after_steps cells used back n w k (j - k)
+  pub steps-go-on : (j : ℕ) (ws after : WalkSlices) (room room_after : List ℕ) (g : Option ℕ) (a : Answer) → k ≤ j → walked ws room ≡ after_steps cells used back n w k (j - k)
       → walk.stepped after g ≡ taken_by cells used back ws n → a ≡ answer_of g → room_after ≡ put room (answer_place j) (encode a)
       → walked after room_after ≡ after_steps cells used back n w k (j + 1 - k)
   unfolding after_steps
@@ -126,7 +126,7 @@ module _ (numbers : List ℕ) (n : ℕ) (w : Walkable numbers n) where
       let four : number_at at n 4 ≡ number_at numbers n 4 = get_or-set_other numbers _ _ _ 0 (λ q. lt_irrefl 0 (omega arith)) in
       record { walk = w.walk; legal = rw (two, three) w.legal; taken = rw (three, four) (omega (arith, set_below numbers (walk_numbers * n + 5) (number_at numbers n 5 + 1), w.taken, more)) }
 
-pub walkable-on : (cells used : List ℕ) (back : Bool) (ws after : WalkSlices) (n : ℕ) (g : Got) → Walkable ws.numbers n → walk.stepped after g ≡ taken_by cells used back ws n → Walkable after.numbers n
+pub walkable-on : (cells used : List ℕ) (back : Bool) (ws after : WalkSlices) (n : ℕ) (g : Option ℕ) → Walkable ws.numbers n → walk.stepped after g ≡ taken_by cells used back ws n → Walkable after.numbers n
 unfolding taken_by
 walkable-on cells used back ws after n g w t = rw (ap (λ (s : walk.Step). s.slices.numbers) t) (pick (is_ended ws.numbers n) refl)
   where

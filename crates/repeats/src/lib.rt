@@ -15,7 +15,6 @@ ghost use Rattle.repeats.specs.InARow.{Roomy, is_get, Gets, walked, Steps, Stops
 
 use limits::numbers::{DONE, NOTHING_THERE};
 use limits::{ALL_NUMBERS, PLACES, operations};
-use lookup::Got;
 use records::{NodeNo, Version};
 use requests::{Answer, Frame};
 use shape::vector_utils;
@@ -92,16 +91,17 @@ pub fn gets(
 
 // ---- steps
 
-fn answer_of(g: Got) -> Answer
+#[tactic(auto, unfolding(calls::specs::Walks::answer_of, meaning::specs::Serve::refused))]
+fn answer_of(g: Option<u32>) -> Answer
     ensures { answer_of result ≡ calls.answer_of g }
 {
     match g {
-        Got::Element(x) => Answer {
+        Some(x) => Answer {
             number: DONE,
             fresh: 0,
             value: x,
         },
-        Got::Nothing => Answer {
+        None => Answer {
             number: NOTHING_THERE,
             fresh: 0,
             value: 0,

@@ -1,4 +1,5 @@
 -- Frames answered in a row are steps of the model.
+use Rattle.std.specs.Prelude.{Some, None}
 use mathlib.Core.Path.{◌≡◌, refl, ap, ◌∙◌}
 use mathlib.Core.Logic.{◌⊎◌, inl, inr}
 use mathlib.Core.Bool.{Bool, true, false, cond, ◌&&◌, ◌||◌}
@@ -21,7 +22,6 @@ use Rattle.meaning.proofs.Booleans.{both_true}
 use Rattle.records.specs.Records.{record_of}
 use Rattle.records.specs.declared.Version.{Version}
 use Rattle.lookup.specs.Lookup.{element_in, got}
-use Rattle.lookup.specs.declared.Got.TheVariants.{Element, Nothing}
 use Rattle.store.specs.Store.{Store}
 use Rattle.levels.specs.Levels.{Taken}
 use Rattle.walk.specs.Walk as walk
@@ -115,7 +115,7 @@ open_stays cells used back ws n = pick (is_ended ws.numbers n)
     t : Taken
     t = taken_of cells used back ws n
 
-    pick : (b : Bool) → number_at (cond b (walk.stepped ws Nothing) (walk.stepped (walk.slices counted t.levels.nodes t.levels.indices) (Element t.element))).slices.numbers n 0 ≡ number_at ws.numbers n 0
+    pick : (b : Bool) → number_at (cond b (walk.stepped ws None) (walk.stepped (walk.slices counted t.levels.nodes t.levels.indices) (Some t.element))).slices.numbers n 0 ≡ number_at ws.numbers n 0
     pick true = refl
     pick false = get_or-set_other ws.numbers _ _ _ 0 (λ q. lt_irrefl 0 (omega arith))
 

@@ -1,4 +1,5 @@
 -- Each answer of a call as a frame's: the assembly of what the code tells of it.
+use Rattle.std.specs.Prelude.{Option}
 use mathlib.Core.Path.{◌≡◌, refl, ap, ◌∙◌}
 use mathlib.Core.List.{List}
 use Prim.Native.Nat.{ℕ}
@@ -6,7 +7,6 @@ use Rattle.meaning.specs.Effects.{signed}
 use Rattle.records.specs.Records.{record_of}
 use Rattle.records.specs.declared.Version.{Version}
 use Rattle.store.specs.Store.{store_of}
-use Rattle.lookup.specs.declared.Got.{Got}
 use Rattle.compare.specs.declared.Ordering.{Ordering}
 use Rattle.compare.specs.declared.Ordering.TheVariants.{Less, Equal, Greater}
 use Rattle.vector.specs.Calls.{Called, called_of}
@@ -18,7 +18,7 @@ use Rattle.served.specs.Acted.{acted_of, edited}
 
 -- ---- what a variant tells
 
-module _ (g h : Got) (f : ℕ) (old : Version) (r : Served) where
+module _ (g h : Option ℕ) (f : ℕ) (old : Version) (r : Served) where
   pub got-is : g ≡ h → r ≡ got_with h f old → r ≡ got_with g f old
   got-is e p = rw e p
 

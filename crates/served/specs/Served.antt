@@ -1,10 +1,8 @@
 -- The answer of a frame for each answer of a call: the number of document 01, fresh and value, beside the free nodes and the version record.
-use Rattle.std.specs.Prelude.{ℕ, ◌%◌}
+use Rattle.std.specs.Prelude.{ℕ, ◌%◌, Option, Some, None}
 use Rattle.meaning.specs.Limits.{done_number, bad_bits_number, nothing_there_number, full_number, no_nodes_number}
 use Rattle.meaning.specs.Effects.{signed}
 use Rattle.records.specs.declared.Version.{Version}
-use Rattle.lookup.specs.declared.Got.{Got}
-use Rattle.lookup.specs.declared.Got.TheVariants.{Element, Nothing}
 use Rattle.compare.specs.Compare.{sign_of}
 use Rattle.compare.specs.declared.Ordering.{Ordering}
 use Rattle.vector.specs.declared.Edit.{Edit}
@@ -33,9 +31,9 @@ edited_with NothingThere f old = refused_with nothing_there_number f old
 edited_with Full f old = refused_with full_number f old
 edited_with NoNodes f old = refused_with no_nodes_number f old
 
-abbrev pub got_with : Got → (free : ℕ) → (old : Version) → Served
-got_with (Element x) f old = answered_with x f old
-got_with Nothing f old = refused_with nothing_there_number f old
+abbrev pub got_with : Option ℕ → (free : ℕ) → (old : Version) → Served
+got_with (Some x) f old = answered_with x f old
+got_with None f old = refused_with nothing_there_number f old
 
 abbrev pub ordered_with : Ordering → (free : ℕ) → (old : Version) → Served
 ordered_with o f old = answered_with (signed (sign_of o)) f old

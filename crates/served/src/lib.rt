@@ -6,7 +6,6 @@ ghost use Rattle.served.specs.Served.{refused_with, answered_with, served_done, 
 
 use compare::Ordering;
 use limits::numbers::{BAD_BITS, DONE, FULL, NO_NODES, NOTHING_THERE};
-use lookup::Got;
 use records::Version;
 use vector::{Edit, Edited};
 
@@ -76,12 +75,12 @@ pub fn of_edited(e: Edited, free: usize, old: Version) -> Served
     }
 }
 
-pub fn of_got(g: Got, free: usize, old: Version) -> Served
+pub fn of_got(g: Option<u32>, free: usize, old: Version) -> Served
     ensures { result ≡ got_with g free old }
 {
     match g {
-        Got::Element(x) => answered(x, free, old),
-        Got::Nothing => refused(NOTHING_THERE, free, old),
+        Some(x) => answered(x, free, old),
+        None => refused(NOTHING_THERE, free, old),
     }
 }
 

@@ -1,4 +1,5 @@
 -- Elements that are cells of one leaf: each is one step of the walk, and what the code finds and stores says so.
+use Rattle.std.specs.Prelude.{Some}
 use mathlib.Core.Path.{◌≡◌, refl, sym, ap, ◌∙◌}
 use mathlib.Core.Logic.{◌≢◌}
 use mathlib.Core.Bool.{Bool, true, false}
@@ -15,7 +16,6 @@ use mir.Syntax.{w32}
 use mir.Val.{Fits}
 use Rattle.meaning.specs.Limits.{node_cells, walk_levels, walk_numbers, places}
 use Rattle.meaning.specs.Counting.{bit}
-use Rattle.lookup.specs.declared.Got.TheVariants.{Element}
 use Rattle.index.specs.Index.{along, Within}
 use Rattle.index.proofs.IndexLaws.{less-within}
 use Rattle.level.specs.Level.{levels, place_at, StaysAt, passed_at}
@@ -99,7 +99,7 @@ module _ (us : List ℕ) (b : Bool) (ns nodes : List ℕ) (is : List ℤ) (n a l
     unfolding passed_on
     whole = refl
 
-    next-taken : taken_by cs us b (passed_on b (slices ns nodes is) n m) n ≡ stepped (passed_on b (slices ns nodes is) n (m + 1)) (Element x)
+    next-taken : taken_by cs us b (passed_on b (slices ns nodes is) n m) n ≡ stepped (passed_on b (slices ns nodes is) n (m + 1)) (Some x)
     unfolding taken_by
     next-taken = rw (not-all, ← one-taken, counted, whole)
 

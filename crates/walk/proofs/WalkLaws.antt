@@ -1,4 +1,5 @@
 -- For each function, that what its callees ensure makes up what it ensures.
+use Rattle.std.specs.Prelude.{Some, None}
 use mathlib.Core.Path.{◌≡◌, refl, ap, ◌∙◌}
 use mathlib.Core.Bool.{Bool, true, false}
 use mathlib.Core.List.{List}
@@ -15,7 +16,6 @@ use Rattle.meaning.specs.Lent.{VersionRecord, empty_record, WalkSlices}
 use Rattle.meaning.specs.Trees.{height_of}
 use Rattle.records.specs.Records.{record_of}
 use Rattle.records.specs.declared.Version.{Version}
-use Rattle.lookup.specs.declared.Got.TheVariants.{Element, Nothing}
 use Rattle.level.specs.Level.{Levels, levels, popped}
 use Rattle.levels.specs.Levels.{HasStack, took, one_taken}
 use Rattle.walk.specs.Walk.{slices, number_at, version_of_walk, Walkable, stored, cleared_from, closed, is_ended, stepped, taken_at, taken_of, taken_by}
@@ -80,7 +80,7 @@ closes ns ns' nodes nodes' is is' n k v e p q t =
 
 -- ---- taking
 
-pub takes-nothing : (cs us : List ℕ) (b : Bool) (ws : WalkSlices) (n : ℕ) (r : Bool) → r ≡ is_ended ws.numbers n → r ≡ true → stepped ws Nothing ≡ taken_by cs us b ws n
+pub takes-nothing : (cs us : List ℕ) (b : Bool) (ws : WalkSlices) (n : ℕ) (r : Bool) → r ≡ is_ended ws.numbers n → r ≡ true → stepped ws None ≡ taken_by cs us b ws n
 unfolding taken_by
 takes-nothing cs us b ws n r p t = rw (← p, t)
 
@@ -94,7 +94,7 @@ taken_is cs us b ns nodes is n v s e q =
 pub takes_one : (cs us : List ℕ) (b : Bool) (ns nodes nodes' : List ℕ) (is is' : List ℤ) (n : ℕ) (r : Bool) (v : Version) (s x : ℕ)
     → r ≡ is_ended ns n → r ≡ false → record_of v ≡ version_of_walk ns n → s ≡ bit b
     → took (levels nodes' is') x ≡ one_taken cs us b (get_or ns (walk_numbers * n + 4 + s) 0) v.root (height_of (record_of v)) (levels nodes is) (walk_levels * (2 * n + s))
-    → stepped (slices (set ns (walk_numbers * n + 4 + s) (get_or ns (walk_numbers * n + 4 + s) 0 + 1)) nodes' is') (Element x) ≡ taken_by cs us b (slices ns nodes is) n
+    → stepped (slices (set ns (walk_numbers * n + 4 + s) (get_or ns (walk_numbers * n + 4 + s) 0 + 1)) nodes' is') (Some x) ≡ taken_by cs us b (slices ns nodes is) n
 unfolding taken_by
 takes_one cs us b ns nodes nodes' is is' n r v s x p f e q t =
     let t' : took (levels nodes' is') x ≡ taken_of cs us b (slices ns nodes is) n = t ∙ taken_is cs us b ns nodes is n v s e q in

@@ -1,12 +1,10 @@
 -- What the code does to the three lists that hold the walk records.
-use Rattle.std.specs.Prelude.{◌≡◌, Bool, cond, List, ℕ, zero, suc, ◌+◌, ◌*◌, ◌^◌, ◌<◌, ◌≤◌, eqb, get_or, set, ℤ}
+use Rattle.std.specs.Prelude.{◌≡◌, Bool, cond, List, ℕ, zero, suc, ◌+◌, ◌*◌, ◌^◌, ◌<◌, ◌≤◌, eqb, get_or, set, ℤ, Option, Some, None}
 use Rattle.meaning.specs.Limits.{node_cells, walk_count, word_width, walk_levels, walk_numbers}
 use Rattle.meaning.specs.Counting.{bit}
 use Rattle.meaning.specs.Lent.{VersionRecord, empty_record, WalkSlices}
 use Rattle.meaning.specs.Trees.{height_of}
 use Rattle.shape.specs.Legal.{Legal}
-use Rattle.lookup.specs.declared.Got.{Got}
-use Rattle.lookup.specs.declared.Got.TheVariants.{Element, Nothing}
 use Rattle.index.specs.Index.{along, Within}
 use Rattle.level.specs.Level.{Levels, levels, popped, place_at, passed_at}
 use Rattle.levels.specs.Levels.{Taken, one_taken}
@@ -63,9 +61,9 @@ is_ended ns n = eqb (number_at ns n 4 + number_at ns n 5) (number_at ns n 3)
 -- the slices afterwards, and the answer
 pub record Step : Type 0 where
   pub slices : WalkSlices
-  pub answer : Got
+  pub answer : Option ℕ
 
-abbrev pub stepped : WalkSlices → Got → Step
+abbrev pub stepped : WalkSlices → Option ℕ → Step
 stepped ws g = record { slices = ws; answer = g }
 
 -- how many are taken from an end
@@ -85,7 +83,7 @@ unfoldable pub taken_by : (cells used : List ℕ) → (back : Bool) → WalkSlic
 taken_by cs us b ws n =
     let t = taken_of cs us b ws n in
     let counted = set ws.numbers (walk_numbers * n + (4 + bit b)) (taken_at ws.numbers n b + 1) in
-    cond (is_ended ws.numbers n) (stepped ws Nothing) (stepped (slices counted t.levels.nodes t.levels.indices) (Element t.element))
+    cond (is_ended ws.numbers n) (stepped ws None) (stepped (slices counted t.levels.nodes t.levels.indices) (Some t.element))
 
 -- ---- so many at once
 
@@ -107,4 +105,4 @@ pub record Staying (used : List ℕ) (back : Bool) (ws : WalkSlices) (n node pla
   pub passable : Passable back ws.numbers ws.indices n most
   pub none : passed_on back ws n 0 ≡ ws
   pub next : (cells : List ℕ) (m : ℕ) → m < most
-      → taken_by cells used back (passed_on back ws n m) n ≡ stepped (passed_on back ws n (m + 1)) (Element (get_or cells (node_cells * node + along back place m) 0))
+      → taken_by cells used back (passed_on back ws n m) n ≡ stepped (passed_on back ws n (m + 1)) (Some (get_or cells (node_cells * node + along back place m) 0))

@@ -9,7 +9,6 @@ ghost use Rattle.level.specs.Level.{levels};
 ghost use Rattle.walk.specs.Walk.{slices, stored, open_record, is_ended, version_of_walk, cleared_from, closed, Walkable, number_at, stepped, taken_by, passed_on, Passable, Staying};
 
 use limits::{ALL_NUMBERS, PLACES, WALK_LEVELS, WALK_NUMBERS};
-use lookup::Got;
 use records::Version;
 
 // ---- opening and closing
@@ -111,13 +110,13 @@ pub fn take(
     indices: &mut [i32; PLACES],
     n: u32,
     back: bool,
-) -> Got
+) -> Option<u32>
     requires { Walkable numbers.old n }
     ensures { stepped (slices numbers.new nodes.new indices.new) result
         ≡ taken_by cells.now used.now back (slices numbers.old nodes.old indices.old) n }
 {
     if ended(numbers, n) {
-        return Got::Nothing;
+        return None;
     }
     let v = version(numbers, n);
     let s = side(back);
@@ -134,7 +133,7 @@ pub fn take(
         v,
     );
     numbers[at] = taken + 1;
-    Got::Element(x)
+    Some(x)
 }
 
 // ---- so many at once

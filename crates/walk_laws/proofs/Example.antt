@@ -1,4 +1,5 @@
 -- No law is empty: the open walk of a well-formed state, which has [8, 9] left, answers 8 from the front and 9 from the back, and then nothing from either end.
+use Rattle.std.specs.Prelude.{Some, None}
 use mathlib.Core.Path.{◌≡◌, refl}
 use mathlib.Core.Logic.{◌≢◌}
 use mathlib.Core.Bool.{Bool, true, false}
@@ -16,7 +17,6 @@ use Rattle.meaning.specs.Table.{taking}
 use Rattle.meaning.specs.Stands.{left_between, walk_of}
 use Rattle.meaning.specs.Effects.{first_item, last_item, without_first, without_last}
 use Rattle.meaning.proofs.Shared.{shared, node, shared-well-formed}
-use Rattle.lookup.specs.declared.Got.TheVariants.{Element, Nothing}
 use Rattle.walk.specs.Walk.{Step, stepped, taken_by}
 use Rattle.walk_laws.specs.Took.{SlicesFit, front_taken, back_taken, Took}
 use Rattle.walk_laws.proofs.Records.{slices-fit}
@@ -57,7 +57,7 @@ second-took : Took s first.slices 5 9 [] (back_taken s (walk_record first.slices
 unfolding last_item without_last
 second-took = next-back-takes s first.slices 5 first-took.sizes (omega arith) first-took.legal (9 ∷ []) first-took.walk (some 9 [])
 
-pub meets : (first.answer ≡ Element 8) × (second.answer ≡ Element 9) × ((b : Bool) → taken_by s.cells s.used b second.slices 5 ≡ stepped second.slices Nothing)
+pub meets : (first.answer ≡ Some 8) × (second.answer ≡ Some 9) × ((b : Bool) → taken_by s.cells s.used b second.slices 5 ≡ stepped second.slices None)
 meets = (
   first-took.answer,
   second-took.answer,

@@ -1,4 +1,5 @@
 -- A walk's record, read from the lists: what one element taken changes of it, and what it leaves of the others.
+use Rattle.std.specs.Prelude.{Some}
 use mathlib.Core.Path.{◌≡◌, refl, sym, ◌∙◌}
 use mathlib.Core.Logic.{◌≢◌}
 use mathlib.Core.Bool.{Bool, true, false}
@@ -13,7 +14,6 @@ use Rattle.meaning.specs.Counting.{bit, rows}
 use Rattle.meaning.specs.Lent.{Lent, WalkSlices, WalkRecord, Level, level_of, walk_record}
 use Rattle.meaning.specs.Trees.{height_of}
 use Rattle.meaning.specs.WellFormed.{SizesFit}
-use Rattle.lookup.specs.declared.Got.TheVariants.{Element}
 use Rattle.level.specs.Level.{Levels}
 use Rattle.levels.specs.Levels.{Taken}
 use Rattle.walk.specs.Walk.{slices, levels_of, number_at, version_of_walk, is_ended, stepped, taken_at, stack_at, taken_of, taken_by}
@@ -70,7 +70,7 @@ module _ (cs us : List ℕ) (b : Bool) (ws : WalkSlices) (n : ℕ) (fits : Slice
   abbrev pub after : WalkSlices
   after = slices (set ws.numbers (walk_numbers * n + (4 + bit b)) (taken_at ws.numbers n b + 1)) taken.levels.nodes taken.levels.indices
 
-  pub takes : is_ended ws.numbers n ≡ false → taken_by cs us b ws n ≡ stepped after (Element taken.element)
+  pub takes : is_ended ws.numbers n ≡ false → taken_by cs us b ws n ≡ stepped after (Some taken.element)
   unfolding taken_by
   takes e = rw e
 

@@ -1,4 +1,5 @@
 -- The promises of `next` and `next_back`: of an open walk they answer the first and the last of what is left, and an ended walk stays as it is.
+use Rattle.std.specs.Prelude.{Some, None}
 use mathlib.Core.Path.{◌≡◌, refl, sym, ap, ◌∙◌}
 use mathlib.Core.Logic.{◌≢◌, ◌↔◌, ⊎_elim}
 use mathlib.Core.Bool.{Bool, true, false}
@@ -17,7 +18,6 @@ use Rattle.meaning.specs.Table.{taking}
 use Rattle.meaning.specs.Stands.{left_between, walk_of}
 use Rattle.meaning.specs.Effects.{first_item, last_item, without_first, without_last}
 use Rattle.shape.proofs.Capacity.{height-levels}
-use Rattle.lookup.specs.declared.Got.TheVariants.{Element, Nothing}
 use Rattle.lookup.proofs.Found.{element-in, contents-at, contents-length}
 use Rattle.walk.specs.Walk.{levels_of, version_of_walk, Walkable, is_ended, Step, stepped, stack_at, taken_of, taken_by}
 use Rattle.walk_laws.specs.Took.{SlicesFit, front_taken, back_taken, Took}
@@ -82,22 +82,22 @@ module _ (s : Nodes) (ws : WalkSlices) (n : ℕ) (fits : SlicesFit ws) (in-range
     unfolding is_ended version_of_walk
     going-is ne = ne_eqb (w.front + w.back) v.length (λ e. lt_irrefl zero (omega (arith, some_left ne)))
 
-    pub ended-stays : (b : Bool) → left ≡ [] → taken_by s.cells s.used b ws n ≡ stepped ws Nothing
+    pub ended-stays : (b : Bool) → left ≡ [] → taken_by s.cells s.used b ws n ≡ stepped ws None
     unfolding taken_by
     ended-stays b e = rw (ended_is e)
 
     -- exactly if nothing is left
-    pub answers-nothing : (b : Bool) → ((taken_by s.cells s.used b ws n).answer ≡ Nothing) ↔ (left ≡ [])
+    pub answers-nothing : (b : Bool) → ((taken_by s.cells s.used b ws n).answer ≡ None) ↔ (left ≡ [])
     answers-nothing b = (
       λ e. by left refl e,
       λ e. ap (λ (t : Step). t.answer) (ended-stays b e),
     )
       where
-        by : (xs : List ℕ) → left ≡ xs → (taken_by s.cells s.used b ws n).answer ≡ Nothing → left ≡ []
+        by : (xs : List ℕ) → left ≡ xs → (taken_by s.cells s.used b ws n).answer ≡ None → left ≡ []
         by [] e a = e
         by (x ∷ xs) e a =
             let some : left ≢ [] = λ f. let z : ◌≡◌ {A = ℕ} 0 1 = cc in lt_irrefl zero (omega arith) in
-            let t : (taken_by s.cells s.used b ws n).answer ≡ Element (taken s.cells s.used b ws n fits in-range low).element =
+            let t : (taken_by s.cells s.used b ws n).answer ≡ Some (taken s.cells s.used b ws n fits in-range low).element =
             ap (λ (p : Step). p.answer) (takes s.cells s.used b ws n fits in-range low (going-is some)) in
             let z : ◌≡◌ {A = ℕ} 0 1 = cc in
             absurd (lt_irrefl zero (omega arith))
@@ -114,7 +114,7 @@ module _ (s : Nodes) (ws : WalkSlices) (n : ℕ) (fits : SlicesFit ws) (in-range
         abbrev then : WalkSlices
         then = after s.cells s.used b ws n fits in-range low
 
-        taken_is : taken_by s.cells s.used b ws n ≡ stepped then (Element (taken s.cells s.used b ws n fits in-range low).element)
+        taken_is : taken_by s.cells s.used b ws n ≡ stepped then (Some (taken s.cells s.used b ws n fits in-range low).element)
         taken_is = takes s.cells s.used b ws n fits in-range low (going-is some)
 
         -- the promise, once the record and the element are known
@@ -124,7 +124,7 @@ module _ (s : Nodes) (ws : WalkSlices) (n : ℕ) (fits : SlicesFit ws) (in-range
             let read : walk_record then n ≡ w' = record-read then n ∙ r in
             rw taken_is
             (record {
-              answer = ap Element e;
+              answer = ap Some e;
               record_is = read;
               legal = rw read p;
               walk = rw read q;

@@ -1,5 +1,5 @@
 -- What one element taken makes of the walk records, in the words of the meaning.
-use Rattle.std.specs.Prelude.{◌≡◌, ◌≢◌, List, ℕ, ◌+◌, length}
+use Rattle.std.specs.Prelude.{◌≡◌, ◌≢◌, List, ℕ, ◌+◌, length, Some}
 use Rattle.meaning.specs.Limits.{all_numbers, places}
 use Rattle.meaning.specs.Lent.{Nodes, VersionRecord, WalkSlices, WalkRecord, closed_record, walk_record}
 use Rattle.meaning.specs.Trees.{contents}
@@ -7,7 +7,6 @@ use Rattle.meaning.specs.Walks.{forward_stack, backward_stack}
 use Rattle.meaning.specs.WellFormed.{Open}
 use Rattle.meaning.specs.Table.{taking}
 use Rattle.meaning.specs.Stands.{walk_of}
-use Rattle.lookup.specs.declared.Got.TheVariants.{Element}
 use Rattle.level.specs.Level.{Levels}
 use Rattle.walk.specs.Walk.{levels_of, Step}
 
@@ -38,7 +37,7 @@ back_taken s w =
 
 -- walk n answers an item, and is left with the rest and this record
 pub record Took (s : Nodes) (ws : WalkSlices) (n item : ℕ) (rest : List ℕ) (w : WalkRecord) (step : Step) : Type 0 where
-  pub answer : step.answer ≡ Element item
+  pub answer : step.answer ≡ Some item
   pub record_is : walk_record step.slices n ≡ w
   pub legal : Open s (walk_record step.slices n)
   pub walk : walk_of s (walk_record step.slices n) ≡ taking rest
