@@ -1,36 +1,12 @@
--- A slice filled from its start: one turn, and the end.
-use mathlib.Core.Path.{◌≡◌, refl, sym, ap, ◌∙◌}
-use mathlib.Core.List.{List, [], ◌∷◌, ◌++◌, append-nil}
+-- The order filled from its start: one turn, and the end.
+use mathlib.Core.Path.{◌≡◌, sym, ap, ◌∙◌}
+use mathlib.Core.List.{List, ◌++◌, append-nil}
 use Prim.Native.Nat.{ℕ, suc, ◌+◌, ◌-◌, ◌≤◌, ◌<◌}
 use native.Mathlib.Numerals.{add-one}
 use native.Mathlib.Omega.{arith}
-use lib.ListN.{length, take, set, replicate, length-set, replicate-append-replicate}
+use lib.ListN.{length, take, set, length-set}
 use lib.Seq.{take_all, take-suc-set, append_snoc}
 use Rattle.meaning.specs.Fresh.{down_from}
-
--- the first i are x, in n
-pub record Filled {A : Type 0} (x : A) (n i : ℕ) (xs : List A) : Type 0 where
-  pub inside : i ≤ n
-  pub length : length xs ≡ n
-  pub filled : take i xs ≡ replicate i x
-
-module _ {A : Type 0} (x : A) (n : ℕ) (xs : List A) where
-  pub fill-starts : length xs ≡ n → Filled x n 0 xs
-  fill-starts e = record { inside = omega arith; length = e; filled = refl }
-
-  pub fill-turn : (i : ℕ) → Filled x n i xs → i < n → Filled x n (i + 1) (set xs i x)
-  fill-turn i f l = record {
-    inside = omega arith;
-    length = length-set xs i x ∙ f.length;
-    filled =
-        rw (add-one i)
-        (take-suc-set xs i x (rw f.length l) ∙ ap (λ (ys : List A). ys ++ (x ∷ [])) f.filled ∙ replicate-append-replicate i 1 x ∙ ap (λ (k : ℕ). replicate k x) (add-one i));
-  }
-
-  pub fill-ends : (i : ℕ) → Filled x n i xs → n ≤ i → xs ≡ replicate n x
-  fill-ends i f l =
-      let e : i ≡ n = omega (arith, f.inside) in
-      sym (take_all i xs (rw f.length l)) ∙ f.filled ∙ ap (λ (k : ℕ). replicate k x) e
 
 -- the first i stand as in the order of n, and what is left of it goes behind them
 pub record Ordered (n i : ℕ) (xs : List ℕ) : Type 0 where

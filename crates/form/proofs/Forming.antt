@@ -1,10 +1,11 @@
 -- What the parts give is what forming promises, and that leaves nothing open.
 use mathlib.Core.Path.{◌≡◌, refl, sym, ap, ◌∙◌}
-use mathlib.Core.Bool.{Bool, true, false}
+use mathlib.Core.Bool.{Bool, true, false, ◌&&◌}
 use mathlib.Core.List.{List, ◌∷◌}
 use Prim.Native.Nat.{ℕ, zero, suc}
 use lib.IntN.{ℤ, pos}
-use lib.ListN.{length, replicate}
+use lib.Dec.{eqb}
+use lib.ListN.{length, replicate, length-map}
 use Rattle.meaning.specs.Limits.{version_count, done_number, ill_formed_number}
 use Rattle.meaning.specs.Lent.{VersionRecord, empty_record, Lent, size}
 use Rattle.meaning.specs.WellFormed.{SizesFit, WellFormed}
@@ -15,13 +16,16 @@ use Rattle.records.specs.Records.{record_of, records_of}
 use Rattle.audit_model.specs.Made.{nodes_of, walks_of, lent_of}
 use Rattle.audit_model.specs.Audit.{sizes_ok}
 use Rattle.audit_model.proofs.Tests.{true≢false}
-use Rattle.audit_model.proofs.Sizes.{lengths, lengths-unfit, sizes-fit, fit-sizes}
+use Rattle.audit_model.proofs.Sizes.{lengths, sizes-fit, fit-sizes}
 use Rattle.form.specs.Forms.{zeros, Forms}
 
 -- a table of one record
-pub table_is : (n : ℕ) (v : Version) (e : VersionRecord) → record_of v ≡ e → records_of (replicate n v) ≡ replicate n e
+table_is : (n : ℕ) (v : Version) (e : VersionRecord) → record_of v ≡ e → records_of (replicate n v) ≡ replicate n e
 table_is zero v e p = refl
 table_is (suc n) v e p = rw p (ap (λ (rs : List VersionRecord). e ∷ rs) (table_is n v e p))
+
+pub cleared : (table filled : List Version) (v : Version) → length (records_of table) ≡ version_count → filled ≡ replicate (length table) v → record_of v ≡ empty_record → records_of filled ≡ replicate version_count empty_record
+cleared table filled v long e p = rw (e, sym (length-map table record_of) ∙ long) (table_is version_count v empty_record p)
 
 pub fresh-is : (s : Lent) (k u c o : List ℕ) (v : List VersionRecord) (a b : List ℕ) (i : List ℤ) → SizesFit s
     → (k ≡ zeros s.nodes.kinds) × (u ≡ zeros s.nodes.used) × (c ≡ zeros s.counts) × (o ≡ down_from (length s.order))
@@ -37,9 +41,19 @@ fresh-is s k u c o v a b i fit n t w = record {
     same : lent_of (nodes_of k u s.nodes.cells) c o v (walks_of a b i) ≡ fresh_state (size s) s.nodes.cells
     same = rw (n.0, n.1, n.2, n.3, t, w.0, w.1, w.2, fit.used, fit.counts, fit.order, fit.walk_numbers, fit.walk_nodes, fit.walk_indices)
 
--- nothing is written
-pub refused-is : (s : Lent) (o : Bool) → o ≡ lengths s → o ≡ false → Forms s s ill_formed_number
-refused-is s o p e = record { fits = λ fit. absurd (lengths-unfit s o p e fit); refuses = λ _. (refl, refl) }
+-- ---- the lengths, the table's with them
+
+module _ (s : Lent) (table : List Version) (o : Bool) (is : o ≡ lengths s) (lent : s.versions ≡ records_of table) where
+  tested : (o && eqb (length table) version_count) ≡ sizes_ok s
+  unfolding sizes_ok
+  tested = rw (is, lent, length-map table record_of)
+
+  pub tested-fit : (o && eqb (length table) version_count) ≡ true → SizesFit s
+  tested-fit e = sizes-fit s (sym tested ∙ e)
+
+  -- nothing is written
+  pub refused-is : (o && eqb (length table) version_count) ≡ false → Forms s s ill_formed_number
+  refused-is e = record { fits = λ fit. absurd (true≢false (sym (fit-sizes s fit) ∙ sym tested ∙ e)); refuses = λ _. (refl, refl) }
 
 -- what is formed is well-formed
 pub forms-well : (s after : Lent) (n : ℕ) → Forms s after n → SizesFit s → WellFormed after

@@ -11,49 +11,14 @@ use limits::VERSIONS;
 use limits::numbers::{DONE, ILL_FORMED};
 use records::Version;
 
-fn clear_bytes(bytes: &mut [u8])
-    ensures { bytes.new ≡ zeros bytes.old }
-{
-    let len = bytes.len();
-    let mut i = 0;
-    while i < len {
-        bytes[i] = 0;
-        i += 1;
-    }
-}
-
-fn clear_words(words: &mut [u32])
-    ensures { words.new ≡ zeros words.old }
-{
-    let len = words.len();
-    let mut i = 0;
-    while i < len {
-        words[i] = 0;
-        i += 1;
-    }
-}
-
-fn clear_indices(indices: &mut [i32])
-    ensures { indices.new ≡ replicate (length indices.old) (pos 0) }
-{
-    let len = indices.len();
-    let mut i = 0;
-    while i < len {
-        indices[i] = 0;
-        i += 1;
-    }
-}
-
 // Every node into the order, the last first.
 fn fill_downwards(order: &mut [u32])
     requires { length order.old ≤ max_nodes }
     ensures { order.new ≡ down_from (length order.old) }
 {
     let len = order.len();
-    let mut i = 0;
-    while i < len {
-        order[i] = (len - (i + 1)) as u32;
-        i += 1;
+    for (i, n) in order.iter_mut().enumerate() {
+        *n = (len - (i + 1)) as u32;
     }
 }
 
@@ -62,9 +27,9 @@ fn clear_nodes(kinds: &mut [u8], used: &mut [u8], counts: &mut [u32], order: &mu
     ensures { (kinds.new ≡ zeros kinds.old) × (used.new ≡ zeros used.old)
         × (counts.new ≡ zeros counts.old) × (order.new ≡ down_from (length order.old)) }
 {
-    clear_bytes(kinds);
-    clear_bytes(used);
-    clear_words(counts);
+    kinds.fill(0);
+    used.fill(0);
+    counts.fill(0);
     fill_downwards(order);
 }
 
@@ -72,16 +37,9 @@ fn clear_walks(walk_numbers: &mut [u32], walk_nodes: &mut [u32], walk_indices: &
     ensures { (walk_numbers.new ≡ zeros walk_numbers.old) × (walk_nodes.new ≡ zeros walk_nodes.old)
         × (walk_indices.new ≡ replicate (length walk_indices.old) (pos 0)) }
 {
-    clear_words(walk_numbers);
-    clear_words(walk_nodes);
-    clear_indices(walk_indices);
-}
-
-// The number given back, and the table.
-#[derive(Drop)]
-pub struct Formed {
-    pub number: u8,
-    pub versions: [Version; VERSIONS],
+    walk_numbers.fill(0);
+    walk_nodes.fill(0);
+    walk_indices.fill(0);
 }
 
 // Sizes that don't fit are refused, and nothing is written.
@@ -91,18 +49,18 @@ pub fn form(
     counts: &mut [u32],
     cells: &[u32],
     order: &mut [u32],
-    versions: [Version; VERSIONS],
+    versions: &mut [Version],
     walk_numbers: &mut [u32],
     walk_nodes: &mut [u32],
     walk_indices: &mut [i32],
-) -> Formed
+) -> u8
     ensures { Forms
-        (lent_from kinds.old used.old counts.old cells.now order.old versions
+        (lent_from kinds.old used.old counts.old cells.now order.old versions.old
         walk_numbers.old walk_nodes.old walk_indices.old)
-        (lent_from kinds.new used.new counts.new cells.now order.new result.versions
-        walk_numbers.new walk_nodes.new walk_indices.new) result.number }
+        (lent_from kinds.new used.new counts.new cells.now order.new versions.new
+        walk_numbers.new walk_nodes.new walk_indices.new) result }
 {
-    let fits = audit_compare::lengths_ok(
+    let lengths = audit_compare::lengths_ok(
         kinds.len(),
         used.len(),
         cells.len(),
@@ -112,18 +70,12 @@ pub fn form(
         walk_nodes.len(),
         walk_indices.len(),
     );
+    let fits = lengths & (versions.len() == VERSIONS);
     if !fits {
-        return Formed {
-            number: ILL_FORMED,
-            versions: versions,
-        };
+        return ILL_FORMED;
     }
     clear_nodes(kinds, used, counts, order);
+    versions.fill(Version::empty());
     clear_walks(walk_numbers, walk_nodes, walk_indices);
-    let empty = Version::empty();
-    let table = [empty; VERSIONS];
-    Formed {
-        number: DONE,
-        versions: table,
-    }
+    DONE
 }

@@ -1,4 +1,3 @@
 -- What a table copied out and back makes of their promises.
 pub mod Settled
-pub mod Forming
 pub mod Batching

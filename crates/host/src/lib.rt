@@ -6,11 +6,11 @@ ghost use Rattle.lending.specs.Lending.{RightSizes};
 ghost use Rattle.audit_reads.specs.Slices.{lent_from};
 ghost use Rattle.form.specs.Forms.{Forms};
 ghost use Rattle.batch.specs.Batched.{Batches};
-ghost use Rattle.host.specs.Reports.{reported_with, FormsOf, BatchesOf};
+ghost use Rattle.host.specs.Reports.{reported_with, BatchesOf};
 
 use lending::Sizes;
 use limits::VERSIONS;
-use limits::numbers::{DONE, ILL_FORMED};
+use limits::numbers::DONE;
 use records::Version;
 use version_table::{store_table, table_of};
 
@@ -44,43 +44,6 @@ fn done_with(number: u8, frames: usize, versions: [Version; VERSIONS]) -> Done
     }
 }
 
-// Forming, with the table by value and the number of records that it was copied from.
-fn form_table(
-    kinds: &mut [u8],
-    used: &mut [u8],
-    counts: &mut [u32],
-    cells: &[u32],
-    order: &mut [u32],
-    count: usize,
-    versions: [Version; VERSIONS],
-    walk_numbers: &mut [u32],
-    walk_nodes: &mut [u32],
-    walk_indices: &mut [i32],
-) -> Done
-    ensures { FormsOf count
-        (lent_from kinds.old used.old counts.old cells.now order.old versions
-        walk_numbers.old walk_nodes.old walk_indices.old)
-        (lent_from kinds.new used.new counts.new cells.now order.new result.versions
-        walk_numbers.new walk_nodes.new walk_indices.new) result }
-{
-    if count != VERSIONS {
-        return done_with(ILL_FORMED, 0, versions);
-    }
-    let r = form::form(
-        kinds,
-        used,
-        counts,
-        cells,
-        order,
-        versions,
-        walk_numbers,
-        walk_nodes,
-        walk_indices,
-    );
-    let table = r.versions;
-    done_with(r.number, 0, table)
-}
-
 // How many elements each slice of a state of so many nodes has; all 0 where there is no such state.
 pub fn jumperloft1_sizes(nodes: usize) -> Sizes
     ensures { RightSizes nodes result }
@@ -106,22 +69,21 @@ pub fn jumperloft1_form(
         (lent_from kinds.new used.new counts.new cells.now order.new versions.new
         walk_numbers.new walk_nodes.new walk_indices.new) result.number × (result.frames ≡ 0) }
 {
-    let count = versions.len();
-    let table = table_of(versions);
-    let formed = form_table(
+    let number = form::form(
         kinds,
         used,
         counts,
         cells,
         order,
-        count,
-        table,
+        versions,
         walk_numbers,
         walk_nodes,
         walk_indices,
     );
-    store_table(versions, formed.versions, formed.stores);
-    formed.report
+    Report {
+        number: number as u32,
+        frames: 0,
+    }
 }
 
 // A batch, with the table by value and the number of records that it was copied from.

@@ -107,19 +107,18 @@ fn main(rt: HostRuntime) {
     let mut numbers = [0u32; ALL_NUMBERS];
     let mut nodes = [0u32; PLACES];
     let mut indices = [0i32; PLACES];
-    let empty = Version::empty();
-    let formed = form::form(
+    let mut versions = [Version::empty(); VERSIONS];
+    form::form(
         &mut kinds,
         &mut used,
         &mut counts,
         &cells,
         &mut order,
-        [empty; VERSIONS],
+        &mut versions,
         &mut numbers,
         &mut nodes,
         &mut indices,
     );
-    let versions = formed.versions;
     answer_all(
         &rt,
         &mut kinds,

@@ -1,3 +1,2 @@
--- The sizes of a state, and the number of a batch that lends others.
-pub mod Sizing
+-- The number of a batch that lends too much or too little.
 pub mod Refusing

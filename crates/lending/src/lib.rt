@@ -2,14 +2,14 @@
 #![tactic(auto)]
 
 ghost use Rattle.std.specs.Prelude.{◌≡◌};
-ghost use Rattle.lending.specs.Lending.{no_sizes, RightSizes, refusal_of};
+ghost use Rattle.lending.specs.Lending.{RightSizes, refusal_of};
 
 use limits::numbers::{ILL_FORMED, NO_ROOM, RAGGED};
 use limits::{ALL_NUMBERS, FRAME_SIZE, MAX_NODES, NODE_CELLS, PLACES, VERSIONS};
 
 // How many elements each slice has.
 #[repr(C)]
-#[derive(Clone, Copy)]
+#[derive(Clone, Copy, Default)]
 pub struct Sizes {
     pub nodes: usize,
     pub used: usize,
@@ -22,31 +22,12 @@ pub struct Sizes {
     pub walk_indices: usize,
 }
 
-fn no_sizes() -> Sizes
-    ensures { result ≡ no_sizes }
-{
-    Sizes {
-        nodes: 0,
-        used: 0,
-        cells: 0,
-        counts: 0,
-        order: 0,
-        versions: 0,
-        walk_numbers: 0,
-        walk_nodes: 0,
-        walk_indices: 0,
-    }
-}
-
 // Of a state of so many nodes; all 0 where there is none.
 pub fn sizes_of(nodes: usize) -> Sizes
     ensures { RightSizes nodes result }
 {
-    if nodes == 0 {
-        return no_sizes();
-    }
-    if MAX_NODES < nodes {
-        return no_sizes();
+    if !(1..=MAX_NODES).contains(&nodes) {
+        return Sizes::default();
     }
     Sizes {
         nodes: nodes,

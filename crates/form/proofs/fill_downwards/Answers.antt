@@ -1,12 +1,8 @@
-use mathlib.Core.Path.{refl}
 use lib.ListN.{length}
-use Rattle.form.proofs.Filling.{order-starts, order-turn, order-ends}
+use Rattle.form.proofs.Filling.{order-turn, order-ends}
 use Rattle.form.proofs.fill_downwards.Goals as goal
 
 -- `form::fill_downwards` meets its contract.
-
-pub loop-i-init : goal.loop-i-init
-loop-i-init c = order-starts _ _ refl
 
 pub loop-i-preserved : goal.loop-i-preserved
 loop-i-preserved c = order-turn _ _ _ c.loop-i.invariant c.loop-i-test.true
