@@ -1,4 +1,5 @@
 -- What the code makes of each operation is the model's.
+use Rattle.std.specs.declared.cmp.Ordering.{Ordering}
 use Rattle.std.specs.Prelude.{Option, Some, None}
 use mathlib.Core.Path.{◌≡◌, refl, sym, ap, ◌∙◌}
 use mathlib.Core.Logic.{◌≢◌}
@@ -16,7 +17,6 @@ use Rattle.records.specs.Records.{record_of}
 use Rattle.records.specs.declared.Version.{Version}
 use Rattle.lookup.specs.Lookup.{got}
 use Rattle.compare.specs.Compare.{ordering}
-use Rattle.compare.specs.declared.Ordering.{Ordering}
 use Rattle.store.specs.Store.{Store, raises}
 use Rattle.sweep.specs.Sweep as sweep
 use Rattle.sweep.specs.Ready.{Releasable}

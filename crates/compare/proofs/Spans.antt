@@ -32,7 +32,7 @@ one-bucket bits h i to j l k =
     let e : j / p ≡ i / p = div-eq_of_lt-le p (omega (arith, div-add-mod' i p)) (omega arith) in
     ap (λ q. q % degree bits) (sym e)
 
--- `shorter(((i >> s) + 1) << s, to)`
+-- `(((i >> s) + 1) << s).min(to)`
 pub end-computed : (bits h i to r : ℕ) → h * bits < word_width → i ≤ max_length → r ≡ min ((i / 2 ^ (h * bits) + 1) * 2 ^ (h * bits) % 2 ^ word_width) to → r ≡ child_end bits h i to
 unfolding child_end
 end-computed bits h i to r l k e = e ∙ ap (λ x. min x to) (mod-eq_of_lt (next_fits (h * bits) i l k))

@@ -1,11 +1,11 @@
 -- The order of two versions' contents, as an answer of the code.
-use Rattle.std.specs.Prelude.{cond, List, [], ℕ, ltb}
+use Rattle.std.specs.Prelude.{List, [], ℕ}
+use Rattle.std.specs.declared.cmp.Ordering.{Ordering}
+use Rattle.std.specs.declared.cmp.Ordering.TheVariants.{Less, Equal, Greater}
 use Rattle.meaning.specs.Trees.{contents}
 use Rattle.meaning.specs.Effects.{Sign, before, same, after, order}
 use Rattle.records.specs.Records.{record_of}
 use Rattle.records.specs.declared.Version.{Version}
-use Rattle.compare.specs.declared.Ordering.{Ordering}
-use Rattle.compare.specs.declared.Ordering.TheVariants.{Less, Equal, Greater}
 
 -- the meaning of each answer
 abbrev pub sign_of : Ordering → Sign
@@ -17,9 +17,6 @@ abbrev pub ordering_of : Sign → Ordering
 ordering_of before = Less
 ordering_of same = Equal
 ordering_of after = Greater
-
-unfoldable pub by_length : (n m : ℕ) → Ordering
-by_length n m = cond (ltb n m) Less (cond (ltb m n) Greater Equal)
 
 -- from the cells alone: kinds and used numbers don't matter to contents
 abbrev pub contents_in : (cells : List ℕ) → Version → List ℕ

@@ -4,7 +4,6 @@ ghost use Rattle.meaning.specs.Limits.{max_length, word_width};
 ghost use Rattle.meaning.specs.WellFormed.{LegalBits};
 ghost use Rattle.compare.specs.Differences.{FirstDifference, child_end};
 
-use crate::shorter;
 use records::NodeNo;
 use shape::vector_utils;
 
@@ -50,15 +49,11 @@ fn in_leaf(cells: &[u32], bits: u32, n: NodeNo, m: NodeNo, from: u32, to: u32) -
     requires range { from ≤ to }
     ensures { FirstDifference cells.now bits 0 n.0 m.0 from to result }
 {
-    let mut i = from;
-    while i < to {
+    for i in from..to {
         let b = vector_utils::bucket(bits, i, 0);
-        let x = lookup::cell_at(cells, n, b);
-        let y = lookup::cell_at(cells, m, b);
-        if x != y {
+        if lookup::cell_at(cells, n, b) != lookup::cell_at(cells, m, b) {
             return i;
         }
-        i += 1;
     }
     to
 }
@@ -70,5 +65,5 @@ fn child_end(bits: u32, height: u32, i: u32, to: u32) -> u32
     ensures { result ≡ child_end bits height i to }
 {
     let s = height * bits;
-    shorter(((i >> s) + 1) << s, to)
+    (((i >> s) + 1) << s).min(to)
 }

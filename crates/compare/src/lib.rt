@@ -3,22 +3,16 @@
 
 mod differences;
 
-ghost use Rattle.std.specs.Prelude.{◌≡◌, ◌*◌, ◌≤◌, ◌<◌, min};
+ghost use Rattle.std.specs.Prelude.{◌≡◌, ◌*◌, ◌≤◌, ◌<◌};
 ghost use Rattle.meaning.specs.Limits.{max_length, word_width};
 ghost use Rattle.meaning.specs.WellFormed.{LegalBits};
 ghost use Rattle.shape.specs.Legal.{Legal};
-ghost use Rattle.compare.specs.Compare.{ordering, by_length};
+ghost use Rattle.compare.specs.Compare.{ordering};
 ghost use Rattle.compare.specs.Differences.{AlikeUntil};
 
 use differences::first_difference;
 use records::{NodeNo, Version};
-
-#[derive(Clone, Copy)]
-pub enum Ordering {
-    Less,
-    Equal,
-    Greater,
-}
+use std::cmp::Ordering;
 
 // Stops at the first difference.
 pub fn cmp(cells: &[u32], a: Version, b: Version) -> Ordering
@@ -28,20 +22,16 @@ pub fn cmp(cells: &[u32], a: Version, b: Version) -> Ordering
 {
     let h = shape::height(a.bits, a.length);
     let k = shape::height(b.bits, b.length);
-    let n = shorter(a.length, b.length);
-    let mut i = alike_until(cells, a, b, h, k, n);
-    while i < n {
+    let n = a.length.min(b.length);
+    let alike = alike_until(cells, a, b, h, k, n);
+    for i in alike..n {
         let x = lookup::element(cells, a.bits, h, NodeNo(a.root), i);
         let y = lookup::element(cells, b.bits, k, NodeNo(b.root), i);
-        if x < y {
-            return Ordering::Less;
+        if x != y {
+            return x.cmp(&y);
         }
-        if y < x {
-            return Ordering::Greater;
-        }
-        i += 1;
     }
-    by_length(a.length, b.length)
+    a.length.cmp(&b.length)
 }
 
 // An index before which the two have the same elements; 0 unless their trees have one degree and height.
@@ -51,32 +41,8 @@ fn alike_until(cells: &[u32], a: Version, b: Version, h: u32, k: u32, n: u32) ->
     requires limit { n ≤ max_length }
     ensures { (result ≤ n) × AlikeUntil cells.now a b h k result }
 {
-    if a.bits != b.bits {
-        return 0;
-    }
-    if h != k {
+    if a.bits != b.bits || h != k {
         return 0;
     }
     first_difference(cells, a.bits, h, NodeNo(a.root), NodeNo(b.root), 0, n)
-}
-
-fn shorter(n: u32, m: u32) -> u32
-    ensures { result ≡ min n m }
-{
-    if n < m {
-        return n;
-    }
-    m
-}
-
-fn by_length(n: u32, m: u32) -> Ordering
-    ensures { result ≡ by_length n m }
-{
-    if n < m {
-        return Ordering::Less;
-    }
-    if m < n {
-        return Ordering::Greater;
-    }
-    Ordering::Equal
 }

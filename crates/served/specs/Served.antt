@@ -1,10 +1,10 @@
 -- The answer of a frame for each answer of a call: the number of document 01, fresh and value, beside the free nodes and the version record.
+use Rattle.std.specs.declared.cmp.Ordering.{Ordering}
 use Rattle.std.specs.Prelude.{ℕ, ◌%◌, Option, Some, None}
 use Rattle.meaning.specs.Limits.{done_number, bad_bits_number, nothing_there_number, full_number, no_nodes_number}
 use Rattle.meaning.specs.Effects.{signed}
 use Rattle.records.specs.declared.Version.{Version}
 use Rattle.compare.specs.Compare.{sign_of}
-use Rattle.compare.specs.declared.Ordering.{Ordering}
 use Rattle.vector.specs.declared.Edit.{Edit}
 use Rattle.vector.specs.declared.Edited.{Edited}
 use Rattle.vector.specs.declared.Edited.TheVariants.{Done, BadBits, NothingThere, Full, NoNodes}

@@ -4,9 +4,9 @@
 ghost use Rattle.std.specs.Prelude.{◌≡◌, ◌%◌};
 ghost use Rattle.served.specs.Served.{refused_with, answered_with, served_done, edited_with, got_with, ordered_with};
 
-use compare::Ordering;
 use limits::numbers::{BAD_BITS, DONE, FULL, NO_NODES, NOTHING_THERE};
 use records::Version;
+use std::cmp::Ordering;
 use vector::{Edit, Edited};
 
 // What a frame is answered, how many nodes are free then, and what stands in the one version record that it may change.
@@ -84,11 +84,12 @@ pub fn of_got(g: Option<u32>, free: usize, old: Version) -> Served
     }
 }
 
+#[tactic(auto, unfolding(meaning::specs::Effects::signed))]
 pub fn of_ordering(o: Ordering, free: usize, old: Version) -> Served
     ensures { result ≡ ordered_with o free old }
 {
     match o {
-        Ordering::Less => answered(0xffff_ffff, free, old),
+        Ordering::Less => answered(u32::MAX, free, old),
         Ordering::Equal => answered(0, free, old),
         Ordering::Greater => answered(1, free, old),
     }

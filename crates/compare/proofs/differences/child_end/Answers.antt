@@ -8,4 +8,4 @@ pub overflow_add-i : goal.overflow_add-i
 overflow_add-i c = omega (arith, c.requires.limit, div-le_self c.args.i (2 ^ (c.args.height * c.args.bits)))
 
 pub returns : goal.returns
-returns c = end-computed c.args.bits c.args.height c.args.i c.args.to _ c.requires.shift c.requires.limit c.shorter.ensures
+returns c = end-computed c.args.bits c.args.height c.args.i c.args.to _ c.requires.shift c.requires.limit c.min.ensures

@@ -1,9 +1,5 @@
-use Prim.Native.Nat.{◌-◌, ◌≤◌}
 use Rattle.compare.specs.Differences.{SameIn}
 use Rattle.compare.proofs.differences.in_leaf.Given as goal
 
 abbrev pub invariant-loop-i : goal.invariant-loop-i
-invariant-loop-i l = (l.from ≤ l.i) × (l.i ≤ l.to) × SameIn l.cells l.bits 0 l.n.0 l.m.0 l.from l.i
-
-abbrev pub decreases-loop-i : goal.decreases-loop-i
-decreases-loop-i l = l.to - l.i
+invariant-loop-i l = SameIn l.cells l.bits 0 l.n.0 l.m.0 l.from l.i
