@@ -126,10 +126,10 @@ pub steps : (t : Step) (free : ℕ) (old : Version) (walks_after : WalkSlices) (
 steps t free old walks_after g r p q = record { walks = ap (λ (x : Step). x.slices) p; answer = q ∙ ap (λ (x : Step). got_with x.answer free old) p }
 
 module _ (s : Store) (ws : WalkSlices) (f : Frame) (v : VersionRecord) (old : Version) (r : Served) where
-  pub open-acts : (counts numbers : List ℕ) (n : ℕ) → n ≡ opened_place f → f.operation ≡ open_walk_code → Opens s.counts ws.numbers s.free n v old counts numbers r
-      → with_walks (acted_of (record { nodes = s.nodes; counts = counts; order = s.order; free = r.free }) r) (slices numbers ws.nodes ws.indices) ≡ walk_act s ws f v (record_of old)
-  unfolding walk_act opened raises
-  open-acts counts numbers n e t o = rw (eq-eqb f.operation open_walk_code t, o.answer, o.linked, o.recorded, e)
+  pub open-acts : (counts : List ℕ) (walks_after : WalkSlices) (n : ℕ) → n ≡ opened_place f → f.operation ≡ open_walk_code → Opens s.counts ws s.free n v old counts walks_after r
+      → with_walks (acted_of (record { nodes = s.nodes; counts = counts; order = s.order; free = r.free }) r) walks_after ≡ walk_act s ws f v (record_of old)
+  unfolding walk_act raises
+  open-acts counts walks_after n e t o = rw (eq-eqb f.operation open_walk_code t, o.answer, o.linked, o.recorded, e)
 
   pub close-acts : (after : Store) (walks_after : WalkSlices) (n : ℕ) → n ≡ used_place f → f.operation ≢ open_walk_code → f.operation ≡ close_walk_code → Closes s ws n old after walks_after r
       → with_walks (acted_of after r) walks_after ≡ walk_act s ws f v (record_of old)

@@ -9,7 +9,7 @@ use Rattle.store.specs.Store.{Store, raise, raised}
 use Rattle.sweep.specs.Ready.{Releasable}
 use Rattle.sweep.specs.Sweep as sweep
 use Rattle.vector.specs.Ready.{Linkable}
-use Rattle.walk.specs.Walk.{stored, open_record, version_of_walk, Walkable, Step, taken_by}
+use Rattle.walk.specs.Walk.{version_of_walk, Walkable, Step, taken_by}
 use Rattle.walk.specs.Walk as walk
 use Rattle.served.specs.Served.{answered_with, got_with}
 use Rattle.served.specs.Acted.{Acted}
@@ -28,9 +28,9 @@ opened_place f = place_of f.party f.destination
 
 -- ---- each operation
 
-pub record Opens (counts numbers : List ℕ) (free n : ℕ) (v : VersionRecord) (old : Version) (counts_after numbers_after : List ℕ) (r : Served) : Type 0 where
+pub record Opens (counts : List ℕ) (ws : WalkSlices) (free n : ℕ) (v : VersionRecord) (old : Version) (counts_after : List ℕ) (walks_after : WalkSlices) (r : Served) : Type 0 where
   pub linked : counts_after ≡ raise counts v.root
-  pub recorded : numbers_after ≡ stored numbers n (open_record v)
+  pub recorded : walks_after ≡ walk.opened ws n v
   pub answer : r ≡ answered_with 0 free old
 
 pub record Closes (s : Store) (ws : WalkSlices) (n : ℕ) (old : Version) (after : Store) (walks_after : WalkSlices) (r : Served) : Type 0 where

@@ -7,15 +7,16 @@ mod walks;
 ghost use Rattle.std.specs.Prelude.{◌≡◌};
 ghost use Rattle.records.specs.Records.{record_of};
 ghost use Rattle.store.specs.Store.{store_of};
-ghost use Rattle.walk.specs.Walk.{slices};
+ghost use Rattle.walk.specs.Walk.{walks_of};
 ghost use Rattle.requests.specs.Requests.{frame_of};
 ghost use Rattle.served.specs.Acted.{acted_of};
 ghost use Rattle.calls.specs.Calls.{Sources, Serviceable, store_act, with_walks, act};
 
-use limits::{ALL_NUMBERS, PLACES, operations};
+use limits::operations;
 use records::{Supply, Version};
 use requests::Frame;
 use served::Served;
+use walk::Walks;
 
 // The operations that leave the walks alone.
 fn act_on_store(
@@ -55,28 +56,26 @@ pub fn act(
     counts: &mut [u32],
     cells: &mut [u32],
     order: &mut [u32],
-    numbers: &mut [u32; ALL_NUMBERS],
-    nodes: &mut [u32; PLACES],
-    indices: &mut [i32; PLACES],
+    walks: &mut Walks,
     supply: Supply,
     f: Frame,
     v: Version,
     w: Version,
     old: Version,
 ) -> Served
-    requires { Serviceable (store_of kinds.old used.old counts.old cells.old order.old supply.free) (slices numbers.old nodes.old indices.old) (frame_of f) (record_of v) (record_of w) }
+    requires { Serviceable (store_of kinds.old used.old counts.old cells.old order.old supply.free) (walks_of walks.old) (frame_of f) (record_of v) (record_of w) }
     ensures { with_walks (acted_of (store_of kinds.new used.new counts.new cells.new order.new result.free) result)
-        (slices numbers.new nodes.new indices.new)
+        (walks_of walks.new)
         ≡ act (store_of kinds.old used.old counts.old cells.old order.old supply.free)
-        (slices numbers.old nodes.old indices.old) (frame_of f) (record_of v) (record_of w) (record_of old) }
+        (walks_of walks.old) (frame_of f) (record_of v) (record_of w) (record_of old) }
 {
-    let walks = (f.operation == operations::NEXT)
+    let on_walk = (f.operation == operations::NEXT)
         | (f.operation == operations::NEXT_BACK)
         | (f.operation == operations::OPEN_WALK)
         | (f.operation == operations::CLOSE_WALK);
-    if walks {
+    if on_walk {
         return walks::act_on_walk(
-            kinds, used, counts, cells, order, numbers, nodes, indices, supply, f, v, old,
+            kinds, used, counts, cells, order, walks, supply, f, v, old,
         );
     }
     act_on_store(kinds, used, counts, cells, order, supply, f, v, w, old)

@@ -5,15 +5,16 @@ ghost use Rattle.records.specs.Records.{record_of};
 ghost use Rattle.store.specs.Store.{store_of};
 ghost use Rattle.sweep.specs.Ready.{Releasable};
 ghost use Rattle.vector.specs.Ready.{Linkable};
-ghost use Rattle.walk.specs.Walk.{slices, version_of_walk, Walkable, taken_by};
+ghost use Rattle.walk.specs.Walk.{walks_of, version_of_walk, Walkable, taken_by};
 ghost use Rattle.requests.specs.Requests.{frame_of};
 ghost use Rattle.served.specs.Acted.{acted_of};
 ghost use Rattle.calls.specs.Walks.{place_of, Opens, Closes, Steps, OnWalk, with_walks, walk_act};
 
-use limits::{ALL_NUMBERS, PARTIES, PARTY_WALKS, PLACES, operations};
+use limits::{PARTIES, PARTY_WALKS, operations};
 use records::{NodeNo, Supply, Version};
 use requests::Frame;
 use served::Served;
+use walk::Walks;
 
 // Where a walk of a party stands among all; a party or walk that is not there has some place too.
 pub fn walk_place(party: u8, walk: u8) -> u32
@@ -24,7 +25,7 @@ pub fn walk_place(party: u8, walk: u8) -> u32
 
 fn open(
     counts: &mut [u32],
-    numbers: &mut [u32; ALL_NUMBERS],
+    walks: &mut Walks,
     supply: Supply,
     n: u32,
     v: Version,
@@ -32,10 +33,10 @@ fn open(
 ) -> Served
     requires link { Linkable counts.old v.root }
     requires place { n < walk_count }
-    ensures { Opens counts.old numbers.old supply.free n (record_of v) old counts.new numbers.new result }
+    ensures { Opens counts.old (walks_of walks.old) supply.free n (record_of v) old counts.new (walks_of walks.new) result }
 {
     store::raise(counts, NodeNo(v.root));
-    walk::open(numbers, n, v);
+    walks.open(n, v);
     served::answered(0, supply.free, old)
 }
 
@@ -45,43 +46,39 @@ fn close(
     counts: &mut [u32],
     cells: &[u32],
     order: &mut [u32],
-    numbers: &mut [u32; ALL_NUMBERS],
-    nodes: &mut [u32; PLACES],
-    indices: &mut [i32; PLACES],
+    walks: &mut Walks,
     supply: Supply,
     n: u32,
     old: Version,
 ) -> Served
-    requires release { Releasable (store_of kinds.old used.old counts.old cells.now order.old supply.free) (version_of_walk numbers.old n).root }
+    requires release { Releasable (store_of kinds.old used.old counts.old cells.now order.old supply.free) (version_of_walk walks.old.numbers n).root }
     requires place { n < walk_count }
     ensures { Closes (store_of kinds.old used.old counts.old cells.now order.old supply.free)
-        (slices numbers.old nodes.old indices.old) n old
+        (walks_of walks.old) n old
         (store_of kinds.new used.new counts.new cells.now order.new result.free)
-        (slices numbers.new nodes.new indices.new) result }
+        (walks_of walks.new) result }
 {
-    let v = walk::version(numbers, n);
+    let v = walks.version(n);
     let free = supply.free;
     let left = sweep::release(kinds, used, counts, cells, order, free, NodeNo(v.root));
-    walk::close(numbers, nodes, indices, n);
+    walks.close(n);
     served::answered(0, left, old)
 }
 
 fn step(
     cells: &[u32],
     used: &[u8],
-    numbers: &mut [u32; ALL_NUMBERS],
-    nodes: &mut [u32; PLACES],
-    indices: &mut [i32; PLACES],
+    walks: &mut Walks,
     supply: Supply,
     n: u32,
     back: bool,
     old: Version,
 ) -> Served
-    requires { Walkable numbers.old n }
-    ensures { Steps (taken_by cells.now used.now back (slices numbers.old nodes.old indices.old) n) supply.free old
-        (slices numbers.new nodes.new indices.new) result }
+    requires { Walkable walks.old.numbers n }
+    ensures { Steps (taken_by cells.now used.now back (walks_of walks.old) n) supply.free old
+        (walks_of walks.new) result }
 {
-    let g = walk::take(cells, used, numbers, nodes, indices, n, back);
+    let g = walks.take(cells, used, n, back);
     served::of_got(g, supply.free, old)
 }
 
@@ -91,30 +88,26 @@ pub fn act_on_walk(
     counts: &mut [u32],
     cells: &[u32],
     order: &mut [u32],
-    numbers: &mut [u32; ALL_NUMBERS],
-    nodes: &mut [u32; PLACES],
-    indices: &mut [i32; PLACES],
+    walks: &mut Walks,
     supply: Supply,
     f: Frame,
     v: Version,
     old: Version,
 ) -> Served
-    requires { OnWalk (store_of kinds.old used.old counts.old cells.now order.old supply.free) (slices numbers.old nodes.old indices.old) (frame_of f) (record_of v) }
+    requires { OnWalk (store_of kinds.old used.old counts.old cells.now order.old supply.free) (walks_of walks.old) (frame_of f) (record_of v) }
     ensures { with_walks (acted_of (store_of kinds.new used.new counts.new cells.now order.new result.free) result)
-        (slices numbers.new nodes.new indices.new)
+        (walks_of walks.new)
         ≡ walk_act (store_of kinds.old used.old counts.old cells.now order.old supply.free)
-        (slices numbers.old nodes.old indices.old) (frame_of f) (record_of v) (record_of old) }
+        (walks_of walks.old) (frame_of f) (record_of v) (record_of old) }
 {
     if f.operation == operations::OPEN_WALK {
         let n = walk_place(f.party, f.destination);
-        return open(counts, numbers, supply, n, v, old);
+        return open(counts, walks, supply, n, v, old);
     }
     let n = walk_place(f.party, f.slot);
     if f.operation == operations::CLOSE_WALK {
-        return close(
-            kinds, used, counts, cells, order, numbers, nodes, indices, supply, n, old,
-        );
+        return close(kinds, used, counts, cells, order, walks, supply, n, old);
     }
     let back = f.operation == operations::NEXT_BACK;
-    step(cells, used, numbers, nodes, indices, supply, n, back, old)
+    step(cells, used, walks, supply, n, back, old)
 }

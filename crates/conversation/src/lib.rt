@@ -3,13 +3,14 @@
 
 ghost use Rattle.records.specs.Records.{records_of};
 ghost use Rattle.store.specs.Store.{store_of};
-ghost use Rattle.walk.specs.Walk.{slices};
+ghost use Rattle.walk.specs.Walk.{walks_of};
 ghost use Rattle.runs.specs.Runs.{run_of};
 ghost use Rattle.conversation.specs.Talks.{CanTalk, Talks};
 
 use hexadecimal::LINE_SIZE;
-use limits::{ALL_NUMBERS, ANSWER_SIZE, FRAME_SIZE, PLACES, VERSIONS};
+use limits::{ANSWER_SIZE, FRAME_SIZE, VERSIONS};
 use records::Version;
+use walk::Walks;
 
 // The most bytes of a piece.
 pub const PIECE: usize = 4096;
@@ -34,9 +35,7 @@ pub fn talk(
     counts: &mut [u32],
     cells: &mut [u32],
     order: &mut [u32],
-    numbers: &mut [u32; ALL_NUMBERS],
-    nodes: &mut [u32; PLACES],
-    indices: &mut [i32; PLACES],
+    walks: &mut Walks,
     free: usize,
     versions: [Version; VERSIONS],
     piece: &[u8],
@@ -44,14 +43,14 @@ pub fn talk(
     len: usize,
     out: &mut [u8],
 ) -> Talked
-    requires { CanTalk (run_of (store_of kinds.old used.old counts.old cells.old order.old free) (records_of versions) (slices numbers.old nodes.old indices.old))
+    requires { CanTalk (run_of (store_of kinds.old used.old counts.old cells.old order.old free) (records_of versions) (walks_of walks.old))
         piece.now len out.old }
     ensures { Talks
         (run_of (store_of kinds.old used.old counts.old cells.old order.old free)
-        (records_of versions) (slices numbers.old nodes.old indices.old))
+        (records_of versions) (walks_of walks.old))
         piece.now begun.old len
         (run_of (store_of kinds.new used.new counts.new cells.new order.new result.free)
-        (records_of result.versions) (slices numbers.new nodes.new indices.new))
+        (records_of result.versions) (walks_of walks.new))
         begun.new result.len result.written out.new }
 {
     let mut marks = [0u8; PIECE];
@@ -64,9 +63,7 @@ pub fn talk(
         counts,
         cells,
         order,
-        numbers,
-        nodes,
-        indices,
+        walks,
         free,
         versions,
         &requests,

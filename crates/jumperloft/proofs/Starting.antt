@@ -6,10 +6,11 @@ use native.Mathlib.Omega.{arith}
 use lib.IntN.{pos}
 use lib.ListN.{length, take, replicate, length-take, length-map, length-replicate}
 use Rattle.meaning.specs.Limits.{node_cells, program_nodes}
-use Rattle.meaning.specs.Lent.{Lent, size}
+use Rattle.meaning.specs.Lent.{Lent, WalkSlices, size}
 use Rattle.meaning.specs.Fresh.{fresh_state}
 use Rattle.meaning.specs.WellFormed.{SizesFit}
 use Rattle.records.specs.Records.{record_of}
+use Rattle.walk.specs.Walk.{all_closed}
 use Rattle.records.specs.declared.Version.{Version}
 use Rattle.audit_reads.specs.Slices.{lent_from}
 use Rattle.form.specs.Forms.{Forms}
@@ -42,7 +43,7 @@ formed-runs s after n fit e f =
 zero-words : (n : ℕ) → length (replicate n zero) ≡ n
 zero-words n = length-replicate n zero
 
-pub zeros-fit : (v : Version)
+zeros-fit : (v : Version)
     → SizesFit (lent_from (replicate 256 0) (replicate 256 0) (replicate 256 0) (replicate 8192 0) (replicate 256 0) (replicate 64 v) (replicate 96 0) (replicate 480 0) (replicate 480 (pos 0)))
 zeros-fit v = record {
   least = rw zero-words (omega arith);
@@ -56,6 +57,10 @@ zeros-fit v = record {
   walk_nodes = zero-words 480;
   walk_indices = length-replicate 480 (pos 0);
 }
+
+pub closed-fit : (v : Version) (walks : WalkSlices) → walks ≡ all_closed
+    → SizesFit (lent_from (replicate 256 0) (replicate 256 0) (replicate 256 0) (replicate 8192 0) (replicate 256 0) (replicate 64 v) walks.numbers walks.nodes walks.indices)
+closed-fit v walks e = rw e (zeros-fit v)
 
 pub zeros-size : length (replicate 256 zero) ≡ program_nodes
 zeros-size = zero-words 256

@@ -5,15 +5,16 @@ ghost use Rattle.std.specs.Prelude.{◌≤◌};
 ghost use Rattle.meaning.specs.Limits.{program_nodes};
 ghost use Rattle.records.specs.Records.{records_of};
 ghost use Rattle.store.specs.Store.{store_of};
-ghost use Rattle.walk.specs.Walk.{slices};
+ghost use Rattle.walk.specs.Walk.{walks_of};
 ghost use Rattle.runs.specs.Runs.{run_of};
 ghost use Rattle.serving.specs.States.{Runs};
 
 use conversation::PIECE;
 use hexadecimal::{LINE_SIZE, PRINTED_SIZE};
-use limits::{ALL_NUMBERS, NODE_CELLS, PLACES, PROGRAM_NODES, VERSIONS};
+use limits::{NODE_CELLS, PROGRAM_NODES, VERSIONS};
 use records::Version;
 use std::io::{Read, Write};
+use walk::Walks;
 
 // The cells of the program's nodes.
 const CELLS: usize = NODE_CELLS * PROGRAM_NODES;
@@ -47,12 +48,10 @@ fn answer_all(
     counts: &mut [u32; PROGRAM_NODES],
     cells: &mut [u32; CELLS],
     order: &mut [u32; PROGRAM_NODES],
-    numbers: &mut [u32; ALL_NUMBERS],
-    nodes: &mut [u32; PLACES],
-    indices: &mut [i32; PLACES],
+    walks: &mut Walks,
     versions: [Version; VERSIONS],
 )
-    requires { Runs (run_of (store_of kinds.old used.old counts.old cells.old order.old program_nodes) (records_of versions) (slices numbers.old nodes.old indices.old)) }
+    requires { Runs (run_of (store_of kinds.old used.old counts.old cells.old order.old program_nodes) (records_of versions) (walks_of walks.old)) }
 {
     let mut begun = [0u8; LINE_SIZE];
     let mut piece = [0u8; PIECE];
@@ -72,9 +71,7 @@ fn answer_all(
             counts,
             cells,
             order,
-            numbers,
-            nodes,
-            indices,
+            walks,
             free,
             table,
             &piece[..n],
@@ -104,9 +101,7 @@ fn main(rt: HostRuntime) {
     let mut counts = [0u32; PROGRAM_NODES];
     let mut cells = [0u32; CELLS];
     let mut order = [0u32; PROGRAM_NODES];
-    let mut numbers = [0u32; ALL_NUMBERS];
-    let mut nodes = [0u32; PLACES];
-    let mut indices = [0i32; PLACES];
+    let mut walks = Walks::all_closed();
     let mut versions = [Version::empty(); VERSIONS];
     form::form(
         &mut kinds,
@@ -115,9 +110,9 @@ fn main(rt: HostRuntime) {
         &cells,
         &mut order,
         &mut versions,
-        &mut numbers,
-        &mut nodes,
-        &mut indices,
+        &mut walks.numbers,
+        &mut walks.levels.nodes,
+        &mut walks.levels.indices,
     );
     answer_all(
         &rt,
@@ -126,9 +121,7 @@ fn main(rt: HostRuntime) {
         &mut counts,
         &mut cells,
         &mut order,
-        &mut numbers,
-        &mut nodes,
-        &mut indices,
+        &mut walks,
         versions,
     );
 }

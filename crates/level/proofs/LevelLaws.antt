@@ -11,7 +11,8 @@ use mir.Val.{to_z, of_z}
 use Rattle.meaning.specs.Limits.{node_cells}
 use Rattle.index.proofs.IndexLaws.{read}
 use Rattle.index.specs.Index.{first, advanced, finished, place}
-use Rattle.level.specs.Level.{Levels, levels, current_at, pushed, dug, index_after, stepped_at, ended_at}
+use Rattle.level.specs.declared.Levels.{Levels}
+use Rattle.level.specs.Level.{levels, current_at, pushed, dug, index_after, stepped_at, ended_at}
 
 pub reads : (z : ℤ) → mag z < 2 ^ 31 → to_z w32 (of_z w32 z) ≡ z
 reads z h = read z (record { sfits = h })
@@ -29,10 +30,6 @@ unfolding pushed
 push-is us ns is b k n u j hj p q =
     let rj : to_z w32 (of_z w32 j) ≡ j = reads j hj in
     cc
-
-pub dig-is : (cs us : List ℕ) (b : Bool) (w v : Levels) (k n : ℕ) → n ≡ current_at cs w (k + 1) → v ≡ pushed us b w k n → v ≡ dug cs us b w k
-unfolding dug
-dig-is cs us b w v k n p q = cc
 
 pub step_is : (us ns : List ℕ) (is : List ℤ) (b : Bool) (k u : ℕ) (z j : ℤ) (r : Bool) → z ≡ get_or is k (pos 0) → mag z < 2 ^ 31 → mag j < 2 ^ 31
     → j ≡ advanced b (to_z w32 (of_z w32 z)) → u ≡ get_or us (get_or ns k 0) 0 → r ≡ finished b u (to_z w32 (of_z w32 j))

@@ -1,11 +1,8 @@
--- What the code does to the two lists that hold the levels. A level's place is k; the level above it, nearer to the root, stands at k + 1.
+-- What the code does to the levels. A level's place is k; the level above it, nearer to the root, stands at k + 1.
 use Rattle.std.specs.Prelude.{Bool, List, ℕ, ◌+◌, ◌*◌, get_or, set, ℤ, pos}
 use Rattle.meaning.specs.Limits.{node_cells}
 use Rattle.index.specs.Index.{first, advanced, finished, place, along, Stays}
-
-pub record Levels : Type 0 where
-  pub nodes : List ℕ
-  pub indices : List ℤ
+use Rattle.level.specs.declared.Levels.{Levels}
 
 abbrev pub levels : List ℕ → List ℤ → Levels
 levels ns is = record { nodes = ns; indices = is }

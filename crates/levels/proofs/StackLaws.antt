@@ -8,7 +8,8 @@ use native.Mathlib.Nat.{lt_irrefl}
 use native.Mathlib.Omega.{arith}
 use lib.Dec.{ltb}
 use borrow.Author.Tests.{eq-eqb, ne_eqb, lt-ltb, le-ltb}
-use Rattle.level.specs.Level.{Levels, current_at, pushed, popped, dug, stepped_at, ended_at}
+use Rattle.level.specs.declared.Levels.{Levels}
+use Rattle.level.specs.Level.{current_at, pushed, popped, dug, stepped_at, ended_at}
 use Rattle.levels.specs.Levels.{Out, out, renewed, advanced_by, dug_down, popped_down, renewed_down, initialised, took, one_taken}
 
 -- after the step of level k
@@ -66,9 +67,12 @@ module _ (cs us : List ℕ) (b : Bool) (w : Levels) (k n m : ℕ) (u : Out) (h :
       → renewed_down cs us b n (out w₁ (ltb n m)) k ≡ u
   stops w₁ r l er ew e = rw (lt-ltb n m l) (by_next (m - (n + 1)) _ (omega arith) (goes_on cs us b w (k + n) w₁ r er ew _ e))
 
-  pub at-the-end : n ≤ m → m ≤ n → renewed_down cs us b n (out w (ltb n m)) k ≡ u
+  pub at-the-end : n ≤ m → m ≤ n → renewed_down cs us b m (out w (ltb m m)) k ≡ u
   unfolding advanced_by
-  at-the-end l g = let z : m - n ≡ 0 = omega arith in rw (le-ltb n m g) (rw z at h)
+  at-the-end l g =
+      let z : m - n ≡ 0 = omega arith in
+      let e : m ≡ n = omega arith in
+      rw (le-ltb m m (omega arith), e) (rw z at h)
 
 -- what is left to do below a level that goes on, and where none does
 digs-below : (cs us : List ℕ) (b : Bool) (n : ℕ) (w : Levels) (k : ℕ) → renewed_down cs us b n (out w true) k ≡ out (dug_down cs us b n w k) true

@@ -2,7 +2,8 @@
 use Rattle.std.specs.Prelude.{Bool, true, false, cond, List, ℕ, zero, suc, ◌+◌, ◌≤◌, eqb}
 use Rattle.meaning.specs.Limits.{walk_levels, places}
 use Rattle.shape.specs.Legal.{Legal}
-use Rattle.level.specs.Level.{Levels, current_at, pushed, popped, dug, stepped_at, ended_at}
+use Rattle.level.specs.declared.Levels.{Levels}
+use Rattle.level.specs.Level.{current_at, pushed, popped, dug, stepped_at, ended_at}
 
 -- a stack of a version with these numbers has room from place k
 pub record HasStack (bits length k : ℕ) : Type 0 where

@@ -1,15 +1,14 @@
 // Steps of a walk that stay in one leaf: answered by its cells in a row, with the walk moved once.
 ghost use Rattle.std.specs.Prelude.{◌≡◌, Bool, ◌+◌, ◌-◌, ◌*◌, ◌≤◌};
 ghost use Rattle.index.specs.Index.{Within};
-ghost use Rattle.walk.specs.Walk.{slices, Walkable};
+ghost use Rattle.walk.specs.Walk.{walks_of, Walkable};
 ghost use Rattle.requests.specs.Requests.{frame_of};
 ghost use Rattle.repeats.specs.InARow.{Roomy, is_step, walked, Steps, StepsInLeaf};
 
 use limits::numbers::DONE;
-use limits::{ALL_NUMBERS, PLACES};
 use records::NodeNo;
 use requests::{Answer, Frame};
-use walk::Stretch;
+use walk::{Stretch, Walks};
 
 // From these bits on a leaf holds enough that to look for a stretch pays.
 const WORTH: u32 = 3;
@@ -25,11 +24,7 @@ fn end_of(k: usize, count: usize, most: u32) -> usize
     requires { k ≤ count }
     ensures { (k ≤ result) × (result ≤ count) × (result - k ≤ most) }
 {
-    let m = most as usize;
-    if count - k < m {
-        return count;
-    }
-    k + m
+    k + (count - k).min(most as usize)
 }
 
 // The answers alone: no walk moves.
@@ -50,8 +45,7 @@ fn answer_cells(
     ensures { StepsInLeaf cells.now party operation walk back s requests.now room.old room.new k count result }
 {
     let end = end_of(k, count, s.most);
-    let mut j = k;
-    while j < end {
+    for j in k..end {
         let f = requests::frame_at(requests, j);
         if !is_step(f, party, operation, walk) {
             return j;
@@ -64,18 +58,15 @@ fn answer_cells(
             value: x,
         };
         requests::put_answer(room, j, answer);
-        j += 1;
     }
-    j
+    end
 }
 
 // Answers steps of walk n from frame k on, no further than its leaf goes, and says at which frame that ends.
 pub fn steps_in_leaf(
     cells: &[u32],
     used: &[u8],
-    numbers: &mut [u32; ALL_NUMBERS],
-    nodes: &[u32; PLACES],
-    indices: &mut [i32; PLACES],
+    walks: &mut Walks,
     party: u8,
     operation: u8,
     walk: u8,
@@ -86,24 +77,22 @@ pub fn steps_in_leaf(
     k: usize,
     count: usize,
 ) -> usize
-    requires walk { Walkable numbers.old n }
+    requires walk { Walkable walks.old.numbers n }
     requires room { Roomy requests.now room.old k count }
     ensures { Steps cells.now used.now party operation walk back n
-        (walked (slices numbers.old nodes.now indices.old) room.old)
-        (walked (slices numbers.new nodes.now indices.new) room.new)
+        (walked (walks_of walks.old) room.old)
+        (walked (walks_of walks.new) room.new)
         requests.now k count result }
 {
-    let v = walk::version(numbers, n);
-    if v.bits < WORTH {
+    if walks.version(n).bits < WORTH {
         return k;
     }
-    let s = walk::stretch_in_leaf(used, numbers, nodes, indices, n, back);
-    if s.most == 0 {
+    let Some(s) = walks.stretch_in_leaf(used, n, back) else {
         return k;
-    }
+    };
     let end = answer_cells(
         cells, party, operation, walk, back, s, requests, room, k, count,
     );
-    walk::pass_on(numbers, indices, n, back, (end - k) as u32);
+    walks.pass_on(n, back, (end - k) as u32);
     end
 }

@@ -8,16 +8,17 @@ ghost use Rattle.meaning.specs.Limits.{word_width, next_back_code};
 ghost use Rattle.meaning.specs.WellFormed.{LegalBits};
 ghost use Rattle.shape.specs.Legal.{Legal};
 ghost use Rattle.lookup.specs.Lookup.{leaf_in};
-ghost use Rattle.walk.specs.Walk.{slices, Walkable};
+ghost use Rattle.walk.specs.Walk.{walks_of, Walkable};
 ghost use Rattle.requests.specs.Requests.{frame_of, answer_of};
 ghost use Rattle.calls.specs.Walks as calls;
 ghost use Rattle.repeats.specs.InARow.{Roomy, is_get, Gets, walked, Steps, Stops, is_step};
 
 use limits::numbers::{DONE, NOTHING_THERE};
-use limits::{ALL_NUMBERS, PLACES, operations};
+use limits::operations;
 use records::{NodeNo, Version};
 use requests::{Answer, Frame};
 use shape::vector_utils;
+use walk::Walks;
 
 // ---- gets
 
@@ -68,8 +69,7 @@ pub fn gets(
     let root = NodeNo(v.root);
     let mut before = 0;
     let mut leaf = lookup::leaf(cells, v.bits, h, root, before);
-    let mut j = k;
-    while j < count {
+    for j in k..count {
         let f = requests::frame_at(requests, j);
         if !is_get(f, party, slot, v.length) {
             return j;
@@ -84,9 +84,8 @@ pub fn gets(
             value: x,
         };
         requests::put_answer(room, j, answer);
-        j += 1;
     }
-    j
+    count
 }
 
 // ---- steps
@@ -113,9 +112,7 @@ fn answer_of(g: Option<u32>) -> Answer
 pub fn steps(
     cells: &[u32],
     used: &[u8],
-    numbers: &mut [u32; ALL_NUMBERS],
-    nodes: &mut [u32; PLACES],
-    indices: &mut [i32; PLACES],
+    walks: &mut Walks,
     party: u8,
     operation: u8,
     walk: u8,
@@ -125,11 +122,11 @@ pub fn steps(
     k: usize,
     count: usize,
 ) -> usize
-    requires walk { Walkable numbers.old n }
+    requires walk { Walkable walks.old.numbers n }
     requires room { Roomy requests.now room.old k count }
     ensures steps { Steps cells.now used.now party operation walk (eqb operation next_back_code) n
-        (walked (slices numbers.old nodes.old indices.old) room.old)
-        (walked (slices numbers.new nodes.new indices.new) room.new)
+        (walked (walks_of walks.old) room.old)
+        (walked (walks_of walks.new) room.new)
         requests.now k count result }
     ensures stops { Stops (is_step party operation walk) requests.now count result }
 {
@@ -140,15 +137,13 @@ pub fn steps(
         if !leaf::is_step(f, party, operation, walk) {
             return j;
         }
-        let g = walk::take(cells, used, numbers, nodes, indices, n, back);
+        let g = walks.take(cells, used, n, back);
         let answer = answer_of(g);
         requests::put_answer(room, j, answer);
         j = leaf::steps_in_leaf(
             cells,
             used,
-            numbers,
-            nodes,
-            indices,
+            walks,
             party,
             operation,
             walk,

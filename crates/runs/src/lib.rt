@@ -4,7 +4,7 @@
 ghost use Rattle.std.specs.Prelude.{◌≡◌};
 ghost use Rattle.records.specs.Records.{record_of, records_of};
 ghost use Rattle.store.specs.Store.{store_of};
-ghost use Rattle.walk.specs.Walk.{slices};
+ghost use Rattle.walk.specs.Walk.{walks_of};
 ghost use Rattle.requests.specs.Requests.{frame_of};
 ghost use Rattle.served.specs.Acted.{acted_of};
 ghost use Rattle.calls.specs.Calls.{with_walks};
@@ -12,10 +12,11 @@ ghost use Rattle.frames.specs.Run.{walk_place};
 ghost use Rattle.turns.specs.Turns.{Turnable, turn};
 ghost use Rattle.runs.specs.Runs.{Placed, source_from, target_from, run_of, progress, CanRun, run_from, Repeatable, Repeats};
 
-use limits::{ALL_NUMBERS, PARTY_WALKS, PLACES, VERSIONS, operations};
+use limits::{PARTY_WALKS, VERSIONS, operations};
 use records::{Supply, Version};
 use requests::{Answer, Frame};
 use served::Served;
+use walk::Walks;
 
 // Where the records of a frame's slots stand, and the one that it may change.
 #[derive(Clone, Copy)]
@@ -44,21 +45,19 @@ fn serve(
     counts: &mut [u32],
     cells: &mut [u32],
     order: &mut [u32],
-    numbers: &mut [u32; ALL_NUMBERS],
-    nodes: &mut [u32; PLACES],
-    indices: &mut [i32; PLACES],
+    walks: &mut Walks,
     supply: Supply,
     f: Frame,
     at_source: Version,
     at_target: Version,
     old: Version,
 ) -> Served
-    requires { Turnable (store_of kinds.old used.old counts.old cells.old order.old supply.free) (slices numbers.old nodes.old indices.old)
+    requires { Turnable (store_of kinds.old used.old counts.old cells.old order.old supply.free) (walks_of walks.old)
         (frame_of f) (source_from (frame_of f) (record_of at_source)) (target_from (frame_of f) (record_of at_target)) }
     ensures { with_walks (acted_of (store_of kinds.new used.new counts.new cells.new order.new result.free) result)
-        (slices numbers.new nodes.new indices.new)
+        (walks_of walks.new)
         ≡ turn (store_of kinds.old used.old counts.old cells.old order.old supply.free)
-        (slices numbers.old nodes.old indices.old)
+        (walks_of walks.old)
         (frame_of f) (source_from (frame_of f) (record_of at_source)) (target_from (frame_of f) (record_of at_target)) (record_of old) }
 {
     let source_there = turns::is_slot(refusals::giver(f), f.slot);
@@ -66,7 +65,7 @@ fn serve(
     let v = turns::version_or_empty(source_there, at_source);
     let w = turns::version_or_empty(target_there, at_target);
     turns::serve(
-        kinds, used, counts, cells, order, numbers, nodes, indices, supply, f, v, w, old,
+        kinds, used, counts, cells, order, walks, supply, f, v, w, old,
     )
 }
 
@@ -82,9 +81,7 @@ fn walk_place(party: u8, walk: u8) -> u32
 fn repeat(
     cells: &[u32],
     used: &[u8],
-    numbers: &mut [u32; ALL_NUMBERS],
-    nodes: &mut [u32; PLACES],
-    indices: &mut [i32; PLACES],
+    walks: &mut Walks,
     f: Frame,
     v: Version,
     requests: &[u8],
@@ -92,24 +89,22 @@ fn repeat(
     k: usize,
     count: usize,
 ) -> usize
-    requires { Repeatable (slices numbers.old nodes.old indices.old) (frame_of f) (record_of v) requests.now room.old k count }
-    ensures { Repeats cells.now used.now (slices numbers.old nodes.old indices.old)
-        (slices numbers.new nodes.new indices.new) (frame_of f) (record_of v)
+    requires { Repeatable (walks_of walks.old) (frame_of f) (record_of v) requests.now room.old k count }
+    ensures { Repeats cells.now used.now (walks_of walks.old)
+        (walks_of walks.new) (frame_of f) (record_of v)
         requests.now room.old room.new k count result }
 {
     let there = turns::is_slot(f.party as u32, f.slot);
     if (f.operation == operations::GET) & there & (v.live == 1) {
         return repeats::gets(cells, f.party, f.slot, v, requests, room, k, count);
     }
-    let open = turns::is_open(numbers, f.party as u32, f.slot);
+    let open = turns::is_open(walks, f.party as u32, f.slot);
     if ((f.operation == operations::NEXT) | (f.operation == operations::NEXT_BACK)) & open {
         let n = walk_place(f.party, f.slot);
         return repeats::steps(
             cells,
             used,
-            numbers,
-            nodes,
-            indices,
+            walks,
             f.party,
             f.operation,
             f.slot,
@@ -138,22 +133,20 @@ pub fn run(
     counts: &mut [u32],
     cells: &mut [u32],
     order: &mut [u32],
-    numbers: &mut [u32; ALL_NUMBERS],
-    nodes: &mut [u32; PLACES],
-    indices: &mut [i32; PLACES],
+    walks: &mut Walks,
     free: usize,
     versions: [Version; VERSIONS],
     requests: &[u8],
     room: &mut [u8],
     count: usize,
 ) -> Ran
-    requires { CanRun (run_of (store_of kinds.old used.old counts.old cells.old order.old free) (records_of versions) (slices numbers.old nodes.old indices.old))
+    requires { CanRun (run_of (store_of kinds.old used.old counts.old cells.old order.old free) (records_of versions) (walks_of walks.old))
         requests.now room.old count }
     ensures { progress (run_of (store_of kinds.new used.new counts.new cells.new order.new result.free)
-        (records_of result.versions) (slices numbers.new nodes.new indices.new)) room.new
+        (records_of result.versions) (walks_of walks.new)) room.new
         ≡ run_from requests.now count
         (progress (run_of (store_of kinds.old used.old counts.old cells.old order.old free)
-        (records_of versions) (slices numbers.old nodes.old indices.old)) room.old) 0 }
+        (records_of versions) (walks_of walks.old)) room.old) 0 }
 {
     let mut table = versions;
     let mut left = free;
@@ -173,9 +166,7 @@ pub fn run(
             counts,
             cells,
             order,
-            numbers,
-            nodes,
-            indices,
+            walks,
             Supply { free: left },
             f,
             at_source,
@@ -195,9 +186,7 @@ pub fn run(
         k = repeat(
             cells,
             used,
-            numbers,
-            nodes,
-            indices,
+            walks,
             f,
             there,
             requests,

@@ -6,7 +6,7 @@ ghost use Rattle.meaning.specs.Limits.{parties, party_slots, version_count};
 ghost use Rattle.meaning.specs.Lent.{empty_record};
 ghost use Rattle.records.specs.Records.{record_of};
 ghost use Rattle.store.specs.Store.{store_of};
-ghost use Rattle.walk.specs.Walk.{slices};
+ghost use Rattle.walk.specs.Walk.{walks_of};
 ghost use Rattle.requests.specs.Requests.{frame_of};
 ghost use Rattle.served.specs.Acted.{acted_of};
 ghost use Rattle.calls.specs.Calls.{with_walks};
@@ -14,10 +14,11 @@ ghost use Rattle.turns.specs.Turns.{place_of, changed_in, is_open_at, Turnable, 
 
 use limits::numbers::DONE;
 use limits::words::PARTIES;
-use limits::{ALL_NUMBERS, PARTY_SLOTS, PARTY_WALKS, PLACES, WALK_NUMBERS, operations};
+use limits::{PARTY_SLOTS, PARTY_WALKS, WALK_NUMBERS, operations};
 use records::{Supply, Version};
 use requests::Frame;
 use served::Served;
+use walk::Walks;
 
 // ---- the version records that a frame names
 
@@ -57,13 +58,13 @@ pub fn changed_place(f: Frame, source: usize, target: usize) -> usize
 // ---- serving
 
 // A walk that is not there is closed.
-pub fn is_open(numbers: &[u32; ALL_NUMBERS], party: u32, walk: u8) -> bool
-    ensures { result ≡ is_open_at numbers.now party walk }
+pub fn is_open(walks: &Walks, party: u32, walk: u8) -> bool
+    ensures { result ≡ is_open_at walks.now.numbers party walk }
 {
     let there = (party < PARTIES) & (walk < PARTY_WALKS);
     if there {
         let n = (PARTY_WALKS as usize) * (party as usize) + (walk as usize);
-        return numbers[WALK_NUMBERS * n] == 1;
+        return walks.numbers[WALK_NUMBERS * n] == 1;
     }
     false
 }
@@ -74,28 +75,26 @@ pub fn serve(
     counts: &mut [u32],
     cells: &mut [u32],
     order: &mut [u32],
-    numbers: &mut [u32; ALL_NUMBERS],
-    nodes: &mut [u32; PLACES],
-    indices: &mut [i32; PLACES],
+    walks: &mut Walks,
     supply: Supply,
     f: Frame,
     v: Version,
     w: Version,
     old: Version,
 ) -> Served
-    requires { Turnable (store_of kinds.old used.old counts.old cells.old order.old supply.free) (slices numbers.old nodes.old indices.old) (frame_of f) (record_of v) (record_of w) }
+    requires { Turnable (store_of kinds.old used.old counts.old cells.old order.old supply.free) (walks_of walks.old) (frame_of f) (record_of v) (record_of w) }
     ensures { with_walks (acted_of (store_of kinds.new used.new counts.new cells.new order.new result.free) result)
-        (slices numbers.new nodes.new indices.new)
+        (walks_of walks.new)
         ≡ turn (store_of kinds.old used.old counts.old cells.old order.old supply.free)
-        (slices numbers.old nodes.old indices.old) (frame_of f) (record_of v) (record_of w) (record_of old) }
+        (walks_of walks.old) (frame_of f) (record_of v) (record_of w) (record_of old) }
 {
-    let used_walk = is_open(numbers, refusals::giver(f), f.slot);
-    let opened_walk = is_open(numbers, refusals::taker(f), f.destination);
+    let used_walk = is_open(walks, refusals::giver(f), f.slot);
+    let opened_walk = is_open(walks, refusals::taker(f), f.destination);
     let number = refusals::refusal(f, v.live == 1, w.live == 1, used_walk, opened_walk);
     if number != DONE {
         return served::refused(number, supply.free, old);
     }
     calls::act(
-        kinds, used, counts, cells, order, numbers, nodes, indices, supply, f, v, w, old,
+        kinds, used, counts, cells, order, walks, supply, f, v, w, old,
     )
 }

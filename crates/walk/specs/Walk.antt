@@ -1,16 +1,21 @@
 -- What the code does to the three lists that hold the walk records.
-use Rattle.std.specs.Prelude.{◌≡◌, Bool, cond, List, ℕ, zero, suc, ◌+◌, ◌*◌, ◌^◌, ◌<◌, ◌≤◌, eqb, get_or, set, ℤ, Option, Some, None}
-use Rattle.meaning.specs.Limits.{node_cells, walk_count, word_width, walk_levels, walk_numbers}
+use Rattle.std.specs.Prelude.{◌≡◌, Bool, cond, List, ℕ, zero, suc, ◌+◌, ◌*◌, ◌^◌, ◌<◌, ◌≤◌, eqb, get_or, set, replicate, ℤ, pos, Option, Some, None}
+use Rattle.meaning.specs.Limits.{node_cells, walk_count, word_width, walk_levels, walk_numbers, all_numbers, places}
 use Rattle.meaning.specs.Counting.{bit}
 use Rattle.meaning.specs.Lent.{VersionRecord, empty_record, WalkSlices}
 use Rattle.meaning.specs.Trees.{height_of}
 use Rattle.shape.specs.Legal.{Legal}
 use Rattle.index.specs.Index.{along, Within}
-use Rattle.level.specs.Level.{Levels, levels, popped, place_at, passed_at}
+use Rattle.level.specs.declared.Levels.{Levels}
+use Rattle.level.specs.Level.{levels, popped, place_at, passed_at}
 use Rattle.levels.specs.Levels.{Taken, one_taken}
+use Rattle.walk.specs.declared.Walks.{Walks}
 
 abbrev pub slices : List ℕ → List ℕ → List ℤ → WalkSlices
 slices numbers nodes indices = record { numbers = numbers; nodes = nodes; indices = indices }
+
+abbrev pub walks_of : Walks → WalkSlices
+walks_of w = slices w.numbers w.levels.nodes w.levels.indices
 
 abbrev pub levels_of : WalkSlices → Levels
 levels_of ws = levels ws.nodes ws.indices
@@ -36,6 +41,9 @@ stored ns n v =
     put 5 0 (put 4 0 (put 3 v.length (put 2 v.bits (put 1 v.root (put 0 v.live ns)))))
 
 -- ---- opening and closing
+
+abbrev pub all_closed : WalkSlices
+all_closed = slices (replicate all_numbers 0) (replicate places 0) (replicate places (pos 0))
 
 abbrev pub open_record : VersionRecord → VersionRecord
 open_record v = record { live = 1; root = v.root; bits = v.bits; length = v.length }

@@ -16,7 +16,8 @@ use Rattle.meaning.specs.Trees.{height_of, element}
 use Rattle.meaning.specs.Walks.{way, stack, padded}
 use Rattle.meaning.specs.WellFormed.{Live}
 use Rattle.shape.proofs.Capacity.{height-levels}
-use Rattle.level.specs.Level.{Levels, pushed}
+use Rattle.level.specs.declared.Levels.{Levels}
+use Rattle.level.specs.Level.{pushed}
 use Rattle.levels.specs.Levels.{advanced_by, initialised, one_taken}
 use Rattle.walk_laws.specs.Stack.{Moved, moves, current, begun, digging, emptied, renewing, advancing}
 use Rattle.walk_laws.proofs.Ways.{way-length, element-current}

@@ -15,7 +15,8 @@ use Rattle.meaning.specs.WellFormed.{Live, Open}
 use Rattle.meaning.specs.Table.{taking}
 use Rattle.meaning.specs.Stands.{left_between}
 use Rattle.lookup.proofs.Found.{contents-length}
-use Rattle.level.specs.Level.{Levels, popped}
+use Rattle.level.specs.declared.Levels.{Levels}
+use Rattle.level.specs.Level.{popped}
 use Rattle.walk.specs.Walk.{levels_of, open_record, opened, cleared_from, closed}
 use Rattle.walk_laws.specs.Took.{LevelsFit, SlicesFit, Opened, Closed}
 use Rattle.walk_laws.proofs.Places.{level_in, Outside, put-here, put_other, put-sized, popped-put}

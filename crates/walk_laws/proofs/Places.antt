@@ -11,7 +11,8 @@ use lib.Seq.{get_or-set_same, get_or-set_other, set-get_or}
 use lib.IntN.{pos}
 use Rattle.meaning.specs.Limits.{places}
 use Rattle.meaning.specs.Lent.{Level, no_level}
-use Rattle.level.specs.Level.{Levels, levels, current_at, pushed, popped, dug, index_after, stepped_at, ended_at}
+use Rattle.level.specs.declared.Levels.{Levels}
+use Rattle.level.specs.Level.{levels, current_at, pushed, popped, dug, index_after, stepped_at, ended_at}
 use Rattle.levels.specs.Levels.{Out, renewed, advanced_by, dug_down, initialised, one_taken}
 use Rattle.walk_laws.specs.Stack.{begun}
 use Rattle.walk_laws.specs.Took.{LevelsFit}

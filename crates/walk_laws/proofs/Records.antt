@@ -14,7 +14,7 @@ use Rattle.meaning.specs.Counting.{bit, rows}
 use Rattle.meaning.specs.Lent.{Lent, WalkSlices, WalkRecord, Level, level_of, walk_record}
 use Rattle.meaning.specs.Trees.{height_of}
 use Rattle.meaning.specs.WellFormed.{SizesFit}
-use Rattle.level.specs.Level.{Levels}
+use Rattle.level.specs.declared.Levels.{Levels}
 use Rattle.levels.specs.Levels.{Taken}
 use Rattle.walk.specs.Walk.{slices, levels_of, number_at, version_of_walk, is_ended, stepped, taken_at, stack_at, taken_of, taken_by}
 use Rattle.walk_laws.specs.Took.{SlicesFit}

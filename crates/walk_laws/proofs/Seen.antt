@@ -9,7 +9,8 @@ use lib.ListN.{length}
 use Rattle.meaning.specs.Limits.{places}
 use Rattle.meaning.specs.Counting.{rows}
 use Rattle.meaning.specs.Lent.{Level, no_level}
-use Rattle.level.specs.Level.{Levels, current_at, pushed, popped, dug, index_after, stepped_at, ended_at}
+use Rattle.level.specs.declared.Levels.{Levels}
+use Rattle.level.specs.Level.{current_at, pushed, popped, dug, index_after, stepped_at, ended_at}
 use Rattle.levels.specs.Levels.{Out, out, renewed, advanced_by, dug_down}
 use Rattle.levels.proofs.StackLaws.{has-level}
 use Rattle.walk_laws.specs.Stack.{Moved, moves, current, begun, digging, emptied, renewing, advancing}

@@ -7,7 +7,7 @@ use Rattle.meaning.specs.Walks.{forward_stack, backward_stack}
 use Rattle.meaning.specs.WellFormed.{Open}
 use Rattle.meaning.specs.Table.{taking}
 use Rattle.meaning.specs.Stands.{walk_of}
-use Rattle.level.specs.Level.{Levels}
+use Rattle.level.specs.declared.Levels.{Levels}
 use Rattle.walk.specs.Walk.{levels_of, Step}
 
 -- ---- the lent lengths

@@ -4,13 +4,13 @@ use Rattle.calls.proofs.Acting.{act-walks, act-stores}
 use Rattle.calls.proofs.act.Goals as goal
 
 pub act_on_walk-requires : goal.act_on_walk-requires
-act_on_walk-requires c = c.requires.walks c.if-walks.true
+act_on_walk-requires c = c.requires.walks c.if-on_walk.true
 
-pub returns-then-walks : goal.returns-then-walks
-returns-then-walks c = act-walks _ _ (frame_of c.args.f) (record_of c.args.v) (record_of c.args.w) (record_of c.args.old) _ c.if-walks.true c.act_on_walk.ensures
+pub returns-then-on_walk : goal.returns-then-on_walk
+returns-then-on_walk c = act-walks _ _ (frame_of c.args.f) (record_of c.args.v) (record_of c.args.w) (record_of c.args.old) _ c.if-on_walk.true c.act_on_walk.ensures
 
 pub act_on_store-requires : goal.act_on_store-requires
 act_on_store-requires c = c.requires.sources
 
 pub returns : goal.returns
-returns c = act-stores _ _ (frame_of c.args.f) (record_of c.args.v) (record_of c.args.w) (record_of c.args.old) _ c.if-walks.false c.act_on_store.ensures
+returns c = act-stores _ _ (frame_of c.args.f) (record_of c.args.v) (record_of c.args.w) (record_of c.args.old) _ c.if-on_walk.false c.act_on_store.ensures

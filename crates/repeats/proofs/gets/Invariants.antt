@@ -11,6 +11,3 @@ invariant-loop-j l =
     × (l.room ≡ after_gets l.cells l.v l.requests l.initial.room l.k (l.j - l.k))
     × (length l.room ≡ length l.initial.room)
     × (l.leaf.0 ≡ leaf_in l.cells l.v.bits l.h l.v.root l.before)
-
-abbrev pub decreases-loop-j : goal.decreases-loop-j
-decreases-loop-j l = l.count - l.j

@@ -1,5 +1,5 @@
 use mathlib.Core.Path.{◌≡◌}
-use Prim.Native.Nat.{◌-◌, ◌≤◌}
+use Prim.Native.Nat.{◌-◌}
 use lib.ListN.{length}
 use Rattle.repeats.specs.InARow.{InARow, is_step, after_cells}
 use Rattle.repeats.proofs.leaf.answer_cells.Given as goal
@@ -9,7 +9,3 @@ invariant-loop-j l =
     (InARow (is_step l.party l.operation l.walk) l.requests l.k l.count l.j)
     × (l.room ≡ after_cells l.cells l.back l.s l.initial.room l.k (l.j - l.k))
     × (length l.room ≡ length l.initial.room)
-    × (l.j ≤ l.end)
-
-abbrev pub decreases-loop-j : goal.decreases-loop-j
-decreases-loop-j l = l.end - l.j
