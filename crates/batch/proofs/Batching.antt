@@ -9,7 +9,7 @@ use lib.IntN.{ℤ}
 use borrow.Author.Tests.{eq-eqb, ne_eqb, lt-ltb, le-ltb}
 use Rattle.meaning.specs.Limits.{frame_size, answer_size, done_number}
 use Rattle.meaning.specs.Counting.{divides}
-use Rattle.meaning.specs.Lent.{VersionRecord, Lent, free_nodes}
+use Rattle.meaning.specs.Lent.{VersionRecord, WalkSlices, Lent, free_nodes}
 use Rattle.meaning.specs.WellFormed.{WellFormed}
 use Rattle.meaning.specs.Stands.{table_of}
 use Rattle.meaning.specs.Frames.{Frame}
@@ -18,7 +18,6 @@ use Rattle.meaning.specs.Batch.{batch_checks, answer_bytes, outcome, batch}
 use Rattle.upkeep.proofs.Doors.{well-formed-runs}
 use Rattle.records.specs.declared.Version.{Version}
 use Rattle.store.specs.Store.{Store}
-use Rattle.walk.specs.Walk.{slices}
 use Rattle.audit_reads.specs.Slices.{lent_from}
 use Rattle.audit.specs.Audited.{Judged}
 use Rattle.frames.specs.Run.{Run}
@@ -123,12 +122,11 @@ reported s requests room room_after kinds used counts cells order numbers nodes 
 
 -- ---- walk records copied out and back
 
-module _ (s : Store) (vs : List VersionRecord) (requests room : List ℕ) (n : ℕ) (numbers numbers' nodes nodes' : List ℕ) (indices indices' : List ℤ)
-    (a : numbers' ≡ numbers) (b : nodes' ≡ nodes) (i : indices' ≡ indices) where
-  pub loads : CanRun (run_of s vs (slices numbers nodes indices)) requests room n → CanRun (run_of s vs (slices numbers' nodes' indices')) requests room n
-  loads c = rw (a, b, i) c
+module _ (s : Store) (vs : List VersionRecord) (requests room : List ℕ) (n : ℕ) (copied lent : WalkSlices) (e : copied ≡ lent) where
+  pub loads : CanRun (run_of s vs lent) requests room n → CanRun (run_of s vs copied) requests room n
+  loads c = rw e c
 
-  pub stores : (after : Store) (ws : List VersionRecord) (room_after : List ℕ) (p p' q q' : List ℕ) (j j' : List ℤ) → p ≡ p' → q ≡ q' → j ≡ j'
-      → progress (run_of after ws (slices p' q' j')) room_after ≡ run_from requests n (progress (run_of s vs (slices numbers' nodes' indices')) room) 0
-      → progress (run_of after ws (slices p q j)) room_after ≡ run_from requests n (progress (run_of s vs (slices numbers nodes indices)) room) 0
-  stores after ws room_after p p' q q' j j' ep eq ej e = rw (ep, eq, ej, ← a, ← b, ← i) e
+  pub stores : (after : Store) (ws : List VersionRecord) (room_after : List ℕ) (left stored : WalkSlices) → stored ≡ left
+      → progress (run_of after ws left) room_after ≡ run_from requests n (progress (run_of s vs copied) room) 0
+      → progress (run_of after ws stored) room_after ≡ run_from requests n (progress (run_of s vs lent) room) 0
+  stores after ws room_after left stored p q = rw (p, ← e) q

@@ -56,27 +56,21 @@ fn serve(
         (progress (run_of (store_of kinds.old used.old counts.old cells.old order.old free)
         (records_of versions) (slices walk_numbers.old walk_nodes.old walk_indices.old)) room.old) 0 }
 {
-    let mut numbers = walk_copies::load_numbers(walk_numbers);
-    let mut nodes = walk_copies::load_nodes(walk_nodes);
-    let mut indices = walk_copies::load_indices(walk_indices);
+    let mut walks = walk_copies::load(walk_numbers, walk_nodes, walk_indices);
     let r = runs::run(
         kinds,
         used,
         counts,
         cells,
         order,
-        &mut numbers,
-        &mut nodes,
-        &mut indices,
+        &mut walks,
         free,
         versions,
         requests,
         room,
         count,
     );
-    walk_copies::store_numbers(walk_numbers, &numbers);
-    walk_copies::store_nodes(walk_nodes, &nodes);
-    walk_copies::store_indices(walk_indices, &indices);
+    walk_copies::store(&walks, walk_numbers, walk_nodes, walk_indices);
     r
 }
 

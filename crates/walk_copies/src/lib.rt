@@ -1,85 +1,32 @@
-// The walk records copied out of the slices that a host lends into arrays, and back.
+// The walk records copied out of the slices that a host lends, and back.
 #![tactic(auto)]
 
 ghost use Rattle.std.specs.Prelude.{◌≡◌, length};
 ghost use Rattle.meaning.specs.Limits.{all_numbers, places};
+ghost use Rattle.walk.specs.Walk.{slices, walks_of};
 
-use limits::{ALL_NUMBERS, PLACES};
+use walk::Walks;
 
-// ---- all of a slice, word by word or index by index
-
-fn copy_words(to: &mut [u32], words: &[u32])
-    requires { length to.old ≡ length words.now }
-    ensures { to.new ≡ words.now }
+pub fn load(numbers: &[u32], nodes: &[u32], indices: &[i32]) -> Walks
+    requires numbers { length numbers.now ≡ all_numbers }
+    requires nodes { length nodes.now ≡ places }
+    requires indices { length indices.now ≡ places }
+    ensures { walks_of result ≡ slices numbers.now nodes.now indices.now }
 {
-    let len = words.len();
-    let mut i = 0;
-    while i < len {
-        to[i] = words[i];
-        i += 1;
-    }
+    let mut walks = Walks::all_closed();
+    walks.numbers.copy_from_slice(numbers);
+    walks.levels.nodes.copy_from_slice(nodes);
+    walks.levels.indices.copy_from_slice(indices);
+    walks
 }
 
-fn copy_indices(to: &mut [i32], indices: &[i32])
-    requires { length to.old ≡ length indices.now }
-    ensures { to.new ≡ indices.now }
+pub fn store(walks: &Walks, numbers: &mut [u32], nodes: &mut [u32], indices: &mut [i32])
+    requires numbers { length numbers.old ≡ all_numbers }
+    requires nodes { length nodes.old ≡ places }
+    requires indices { length indices.old ≡ places }
+    ensures { slices numbers.new nodes.new indices.new ≡ walks_of walks.now }
 {
-    let len = indices.len();
-    let mut i = 0;
-    while i < len {
-        to[i] = indices[i];
-        i += 1;
-    }
-}
-
-// ---- out of what is lent
-
-pub fn load_numbers(from: &[u32]) -> [u32; ALL_NUMBERS]
-    requires { length from.now ≡ all_numbers }
-    ensures { result ≡ from.now }
-{
-    let mut out = [0u32; ALL_NUMBERS];
-    copy_words(&mut out, from);
-    out
-}
-
-pub fn load_nodes(from: &[u32]) -> [u32; PLACES]
-    requires { length from.now ≡ places }
-    ensures { result ≡ from.now }
-{
-    let mut out = [0u32; PLACES];
-    copy_words(&mut out, from);
-    out
-}
-
-pub fn load_indices(from: &[i32]) -> [i32; PLACES]
-    requires { length from.now ≡ places }
-    ensures { result ≡ from.now }
-{
-    let mut out = [0i32; PLACES];
-    copy_indices(&mut out, from);
-    out
-}
-
-// ---- and back
-
-pub fn store_numbers(to: &mut [u32], from: &[u32; ALL_NUMBERS])
-    requires { length to.old ≡ all_numbers }
-    ensures { to.new ≡ from.now }
-{
-    copy_words(to, from);
-}
-
-pub fn store_nodes(to: &mut [u32], from: &[u32; PLACES])
-    requires { length to.old ≡ places }
-    ensures { to.new ≡ from.now }
-{
-    copy_words(to, from);
-}
-
-pub fn store_indices(to: &mut [i32], from: &[i32; PLACES])
-    requires { length to.old ≡ places }
-    ensures { to.new ≡ from.now }
-{
-    copy_indices(to, from);
+    numbers.copy_from_slice(&walks.numbers);
+    nodes.copy_from_slice(&walks.levels.nodes);
+    indices.copy_from_slice(&walks.levels.indices);
 }
