@@ -58,17 +58,7 @@ fn serve(
 {
     let mut walks = walk_copies::load(walk_numbers, walk_nodes, walk_indices);
     let r = runs::run(
-        kinds,
-        used,
-        counts,
-        cells,
-        order,
-        &mut walks,
-        free,
-        versions,
-        requests,
-        room,
-        count,
+        kinds, used, counts, cells, order, &mut walks, free, versions, requests, room, count,
     );
     walk_copies::store(&walks, walk_numbers, walk_nodes, walk_indices);
     r

@@ -74,9 +74,7 @@ pub fn act(
         | (f.operation == operations::OPEN_WALK)
         | (f.operation == operations::CLOSE_WALK);
     if on_walk {
-        return walks::act_on_walk(
-            kinds, used, counts, cells, order, walks, supply, f, v, old,
-        );
+        return walks::act_on_walk(kinds, used, counts, cells, order, walks, supply, f, v, old);
     }
     act_on_store(kinds, used, counts, cells, order, supply, f, v, w, old)
 }

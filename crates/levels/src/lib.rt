@@ -43,14 +43,7 @@ fn pop_down(levels: &mut Levels, k: usize, h: usize)
 }
 
 // One step of the m levels from k. A level that has finished gives way to the step of those above it, and begins anew below them; where all have finished, all are popped. Answers whether any is left.
-fn advance(
-    levels: &mut Levels,
-    cells: &[u32],
-    used: &[u8],
-    back: bool,
-    k: usize,
-    m: usize,
-) -> bool
+fn advance(levels: &mut Levels, cells: &[u32], used: &[u8], back: bool, k: usize, m: usize) -> bool
     requires { k + m ≤ places }
     ensures { out levels.new result ≡ advanced_by cells.now used.now back m levels.old k }
 {
@@ -84,14 +77,7 @@ fn init_if_needed(
 }
 
 // One step of a whole stack, its first level written out: a step that stays in its leaf touches that level alone, and needs no height.
-fn advance_near(
-    levels: &mut Levels,
-    cells: &[u32],
-    used: &[u8],
-    back: bool,
-    k: usize,
-    v: Version,
-)
+fn advance_near(levels: &mut Levels, cells: &[u32], used: &[u8], back: bool, k: usize, v: Version)
     requires { HasStack v.bits v.length k }
     ensures { levels.new ≡ (advanced_by cells.now used.now back (suc (height v.bits v.length)) levels.old k).levels }
 {

@@ -183,17 +183,7 @@ pub fn run(
         };
         requests::put_answer(room, k, answer);
         let there = table[source];
-        k = repeat(
-            cells,
-            used,
-            walks,
-            f,
-            there,
-            requests,
-            room,
-            k + 1,
-            count,
-        );
+        k = repeat(cells, used, walks, f, there, requests, room, k + 1, count);
     }
     Ran {
         versions: table,

@@ -174,6 +174,7 @@ impl Walks {
         let at = WALK_NUMBERS * (n as usize) + 4 + s;
         let taken = self.numbers[at] + m;
         self.numbers[at] = taken;
-        self.levels.pass(back, WALK_LEVELS * (2 * (n as usize) + s), m);
+        self.levels
+            .pass(back, WALK_LEVELS * (2 * (n as usize) + s), m);
     }
 }
