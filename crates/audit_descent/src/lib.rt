@@ -1,113 +1,106 @@
-// The descent into a version.
+// The descent into a version, and the numbers that it needs.
 #![tactic(auto)]
 
-ghost use Rattle.std.specs.Prelude.{◌≡◌, true, false, ◌+◌, ◌*◌, ◌-◌, ◌^◌, ◌≤◌, ◌<◌, min};
-ghost use Rattle.meaning.specs.Limits.{max_length, length_bits, node_cells};
+ghost use Rattle.std.specs.Prelude.{◌≡◌, true, false, ◌+◌, ◌-◌, ◌*◌, ◌^◌, ◌<◌, ◌≤◌, min};
+ghost use Rattle.meaning.specs.Limits.{node_cells, max_length};
 ghost use Rattle.meaning.specs.Shape.{degree};
-ghost use Rattle.meaning.specs.WellFormed.{LegalBits};
-ghost use Rattle.audit_model.specs.Made.{nodes_of};
-ghost use Rattle.audit_model.specs.Descent.{answer, pick, marked, leaf_ok, branch_ok, visit};
+ghost use Rattle.audit_model.specs.Descent.{code, answer, leaf_ok, branch_ok, visit};
+ghost use Rattle.audit_reads.specs.Slices.{nodes_in};
 ghost use Rattle.audit_descent.specs.Descendable.{Descendable};
 
-// What a child of a node of that height holds when it is full.
-pub fn capacity(bits: u32, height: u32) -> u32
-    requires legal { LegalBits bits }
-    requires shift { height * bits < length_bits }
-    ensures { (result ≡ degree bits ^ height) × (result ≤ max_length) }
-{
-    1 << (height * bits)
+use audit_reads::Nodes;
+
+// What a node is asked to be: the root of a tree of that height over so many elements.
+#[derive(Clone, Copy)]
+pub struct Tree {
+    pub bits: u32,
+    pub height: u32,
+    pub size: u32,
+    pub ghost descendable: { Descendable bits height size },
 }
 
-// What child i holds of a node that holds size.
-pub fn share(c: u32, size: u32, i: u32) -> u32
-    requires { (c ≤ max_length) × (i < node_cells) }
-    ensures { result ≡ min c (size - i * c) }
-{
-    let before = i * c;
-    if size <= before {
-        return 0;
+impl Tree {
+    // The code under which a node is found right.
+    pub fn mark(self) -> u32
+        ensures { result ≡ code self.bits self.height self.size }
+    {
+        audit_model::code_of(self.bits, self.height, self.size)
     }
-    let left = size - before;
-    if left < c {
-        return left;
+
+    // What a child holds when it is full.
+    pub fn capacity(self) -> u32
+        ensures { (result ≡ degree self.bits ^ self.height) × (result ≤ max_length) }
+    {
+        1 << (self.height * self.bits)
     }
-    c
-}
 
-// Whether a node of that kind and used number is a leaf of size elements.
-pub fn leaf_ok(kind: u32, used: u32, bits: u32, size: u32) -> bool
-    requires { LegalBits bits }
-    ensures { result ≡ leaf_ok kind used bits size }
-{
-    let d = shape::vector_utils::degree(bits);
-    (kind == limits::words::LEAF) & (used == size) & (size <= d)
-}
-
-// Whether it is a branch over size elements with children that hold c each. Then it has no more children than cells.
-pub fn branch_ok(kind: u32, used: u32, bits: u32, c: u32, size: u32) -> bool
-    requires { LegalBits bits × (used ≤ 255) × (c ≤ max_length) × (size ≤ max_length) }
-    ensures { (result ≡ branch_ok kind used bits c size) × (result ≡ true → used ≤ node_cells) }
-{
-    let d = shape::vector_utils::degree(bits);
-    let most = used * c;
-    (kind == limits::words::BRANCH) & (used <= d) & (size <= most) & (most < size + c)
-}
-
-// A leaf is marked if it is right.
-pub fn at_leaf(codes: &mut [u32], right: bool, n: usize, mark: u32) -> bool
-    ensures { answer result codes.new ≡ pick right (marked n mark codes.old) (answer false codes.old) }
-{
-    if right {
-        audit_reads::put_at(codes, n, mark);
-        return true;
+    // What child i is asked to be, where a full one holds c.
+    pub fn child(self, c: u32, i: u32) -> Tree
+        requires { (0 < self.height) × (c ≤ max_length) × (i < node_cells) }
+        ensures bits { result.bits ≡ self.bits }
+        ensures height { result.height ≡ self.height - 1 }
+        ensures size { result.size ≡ min c (self.size - i * c) }
+    {
+        Tree {
+            bits: self.bits,
+            height: self.height - 1,
+            size: c.min(self.size.saturating_sub(i * c)),
+        }
     }
-    false
+
+    // Whether a node of that kind and used number is a leaf of that size.
+    pub fn is_leaf(self, kind: u8, used: u8) -> bool
+        ensures { result ≡ leaf_ok kind used self.bits self.size }
+    {
+        (kind == limits::LEAF)
+            & (used as u32 == self.size)
+            & (self.size <= shape::vector_utils::degree(self.bits))
+    }
+
+    // Whether it is a branch of that size with children that hold c each. Then it has no more children than cells.
+    pub fn is_branch(self, kind: u8, used: u8, c: u32) -> bool
+        requires { c ≤ max_length }
+        ensures { (result ≡ branch_ok kind used self.bits c self.size) × (result ≡ true → used ≤ node_cells) }
+    {
+        let used = used as u32;
+        let most = used * c;
+        (kind == limits::BRANCH)
+            & (used <= shape::vector_utils::degree(self.bits))
+            & (self.size <= most)
+            & (most < self.size + c)
+    }
 }
 
-// Whether a node is a tree of a height that holds size elements; what is found right is marked, after its children.
-pub fn descend(
-    kinds: &[u8],
-    used: &[u8],
-    cells: &[u32],
-    codes: &mut [u32],
-    bits: u32,
-    height: u32,
-    size: u32,
-    node: u32,
-) -> bool
-    requires { Descendable bits height size }
-    ensures { answer result codes.new ≡ visit (nodes_of kinds.now used.now cells.now) bits height size node codes.old }
+// Whether a node is that tree; what is found right is marked, after its children. The slices go by reference: a copy for each node is slower.
+pub fn descend(nodes: &Nodes, codes: &mut [u32], tree: Tree, node: u32) -> bool
+    ensures { answer result codes.new ≡ visit (nodes_in nodes.now) tree.bits tree.height tree.size node codes.old }
 {
     let n = node as usize;
-    let len = kinds.len();
-    if n >= len {
+    if n >= nodes.kinds.len() {
         return false;
     }
-    let mark = audit_model::code_of(bits, height, size);
-    let old = audit_reads::word_at(codes, n);
-    if old == mark {
+    let mark = tree.mark();
+    let found = audit_reads::at(codes, n, 0);
+    if found == mark {
         return true;
     }
-    let kind = audit_reads::byte_at(kinds, n);
-    let u = audit_reads::byte_at(used, n);
-    if height == 0 {
-        let right = leaf_ok(kind, u, bits, size);
-        return at_leaf(codes, right, n, mark);
-    }
-    let c = capacity(bits, height);
-    let fits = branch_ok(kind, u, bits, c, size);
-    if !fits {
+    let kind = nodes.kind(node);
+    let used = nodes.used(node);
+    if tree.height == 0 {
+        if tree.is_leaf(kind, used) {
+            audit_reads::put_at(codes, n, mark);
+            return true;
+        }
         return false;
     }
-    let mut i: u32 = 0;
-    while i < u {
-        let m = share(c, size, i);
-        let child = audit_reads::cell_at(cells, node, i);
-        let right = descend(kinds, used, cells, codes, bits, height - 1, m, child);
-        if !right {
+    let c = tree.capacity();
+    if !tree.is_branch(kind, used, c) {
+        return false;
+    }
+    for i in 0..used as u32 {
+        if !descend(nodes, codes, tree.child(c, i), nodes.cell(node, i)) {
             return false;
         }
-        i += 1;
     }
     audit_reads::put_at(codes, n, mark);
     true

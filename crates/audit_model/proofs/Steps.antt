@@ -47,9 +47,9 @@ module _ (f : ℕ → List ℕ → Answer) (t₀ : List ℕ) where
   unfolding through
   through-start = refl
 
-  pub through-next : (i : ℕ) (t t' : List ℕ) (o : Bool) → through i f t₀ ≡ answer true t → answer o t' ≡ f i t → o ≡ true → through (i + 1) f t₀ ≡ answer true t'
+  pub through-next : (i : ℕ) (t t' : List ℕ) → through i f t₀ ≡ answer true t → answer true t' ≡ f i t → through (i + 1) f t₀ ≡ answer true t'
   unfolding through go_on
-  through-next i t t' o p q e = rw (add-one, p) (sym q ∙ ap (λ (x : Bool). answer x t') e)
+  through-next i t t' p q = rw (add-one, p) (sym q)
 
   through-stays : (k n : ℕ) (t : List ℕ) → k ≤ n → through k f t₀ ≡ answer false t → through n f t₀ ≡ answer false t
   unfolding through go_on
@@ -60,10 +60,10 @@ module _ (f : ℕ → List ℕ → Answer) (t₀ : List ℕ) where
       by (inl e) rest = rw e at p
       by (inr q) rest = rw (rest (le_of_suc-le-suc q))
 
-  pub through-fails : (i n : ℕ) (t t' : List ℕ) (o : Bool) → i < n → through i f t₀ ≡ answer true t → answer o t' ≡ f i t → o ≡ false → answer false t' ≡ through n f t₀
+  pub through-fails : (i n : ℕ) (t t' : List ℕ) → i < n → through i f t₀ ≡ answer true t → answer false t' ≡ f i t → answer false t' ≡ through n f t₀
   unfolding through go_on
-  through-fails i n t t' o l p q e =
-      let w : through (suc i) f t₀ ≡ answer false t' = rw p (sym q ∙ ap (λ (x : Bool). answer x t') e) in
+  through-fails i n t t' l p q =
+      let w : through (suc i) f t₀ ≡ answer false t' = rw p (sym q) in
       sym (through-stays (suc i) n t' l w)
 
   pub through-ends : (i n : ℕ) (t : List ℕ) → through i f t₀ ≡ answer true t → i ≤ n → n ≤ i → answer true t ≡ through n f t₀

@@ -2,10 +2,10 @@
 #![tactic(auto)]
 
 ghost use Rattle.std.specs.Prelude.{◌≡◌, ◌&&◌, ◌+◌, ◌*◌, ◌<◌, ◌≤◌, eqb, pos, get_or, set};
-ghost use Rattle.meaning.specs.Limits.{node_cells, walk_count};
+ghost use Rattle.meaning.specs.Limits.{node_cells, walk_count, walk_numbers};
 ghost use Rattle.meaning.specs.Lent.{kind_of, used_of, cell_of};
 ghost use Rattle.records.specs.Records.{record_of};
-ghost use Rattle.audit_model.specs.Made.{walk_version};
+ghost use Rattle.audit_model.specs.Made.{walk_number, walk_version};
 ghost use Rattle.audit_model.specs.Records.{is_index};
 ghost use Rattle.audit_reads.specs.Slices.{nodes_in};
 
@@ -88,17 +88,24 @@ impl<'a> Walks<'a> {
         same & right
     }
 
+    // Number k of walk n.
+    pub fn number(self, n: usize, k: usize) -> u32
+        requires { (n < walk_count) × (k < walk_numbers) }
+        ensures { result ≡ walk_number self.entry.numbers.now n k }
+    {
+        at(self.numbers, limits::WALK_NUMBERS * n + k, 0)
+    }
+
     // What walk n walks.
     pub fn version(self, n: usize) -> records::Version
         requires { n < walk_count }
         ensures { record_of result ≡ walk_version self.entry.numbers.now n }
     {
-        let first = limits::WALK_NUMBERS * n;
         records::Version {
-            live: at(self.numbers, first, 0),
-            root: at(self.numbers, first + 1, 0),
-            bits: at(self.numbers, first + 2, 0),
-            length: at(self.numbers, first + 3, 0),
+            live: self.number(n, 0),
+            root: self.number(n, 1),
+            bits: self.number(n, 2),
+            length: self.number(n, 3),
         }
     }
 }

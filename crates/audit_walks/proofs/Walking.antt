@@ -1,27 +1,24 @@
 -- What the calls of the comparison give is what the model says.
-use mathlib.Core.Path.{◌≡◌, refl, sym, ap, ◌∙◌}
+use mathlib.Core.Path.{◌≡◌, refl, sym, ◌∙◌}
 use mathlib.Core.Logic.{inl, inr}
 use mathlib.Core.Bool.{Bool, true, false, ◌&&◌, ◌||◌}
 use mathlib.Core.List.{List}
-use Prim.Native.Nat.{ℕ, zero, suc, ◌+◌, ◌-◌, ◌*◌, ◌/◌, ◌^◌, ◌≤◌, ◌<◌}
-use native.Mathlib.Nat.{lt_irrefl, suc-mul, mul-le-mul_right}
+use Prim.Native.Nat.{ℕ, zero, suc, ◌+◌, ◌-◌, ◌*◌, ◌≤◌, ◌<◌}
+use native.Mathlib.Nat.{lt_irrefl}
 use native.Mathlib.Numerals.{add-one, sub-one}
 use native.Mathlib.Omega.{arith}
-use lib.Bits.{bit_and}
 use lib.Dec.{eqb, leb}
 use lib.IntN.{ℤ, pos}
 use lib.ListN.{get_or}
 use borrow.Author.Tests.{le-leb, lt-leb, eqb-false}
-use Rattle.meaning.specs.Limits.{node_cells, length_bits, walk_levels, word_width}
+use Rattle.meaning.specs.Limits.{node_cells, walk_levels}
 use Rattle.meaning.specs.Lent.{VersionRecord, walk_record}
-use Rattle.meaning.specs.Shape.{mask, bucket}
+use Rattle.meaning.specs.Shape.{bucket}
 use Rattle.meaning.specs.Trees.{height_of}
-use Rattle.meaning.specs.WellFormed.{LegalBits}
 use Rattle.shape.specs.Legal.{Legal}
-use Rattle.shape.proofs.Computed.{bucket-computed}
 use Rattle.audit_model.specs.Made.{walks_of, walk_number, walk_version}
 use Rattle.audit_model.specs.Records.{is_index, level_is, way_ok, blank_from, stack_ok, walk_agrees}
-use Rattle.audit_model.proofs.Steps.{Held, from-ends, from-fails, cond_yes, cond_no, and_yes, and_no}
+use Rattle.audit_model.proofs.Steps.{Held, from-ends, from-fails, cond_yes}
 use Rattle.audit_walks.specs.Walkable.{Found, Walkable}
 
 module _ (ns : List ℕ) (is : List ℤ) (st : ℕ) where
@@ -35,9 +32,9 @@ module _ (ns : List ℕ) (is : List ℤ) (st : ℕ) where
   unfolding blank_from
   blank-ends start i h l = from-ends start i walk_levels (λ k. level_is ns is st k 0 0) h l
 
-  pub blank-fails : (start i : ℕ) (o : Bool) → start ≤ i → i < walk_levels → o ≡ level_is ns is st i 0 0 → o ≡ false → false ≡ blank_from ns is st start
+  pub blank-fails : (start i : ℕ) → start ≤ i → i < walk_levels → false ≡ level_is ns is st i 0 0 → false ≡ blank_from ns is st start
   unfolding blank_from
-  blank-fails start i o l u p e = from-fails start i walk_levels (λ k. level_is ns is st k 0 0) l u (sym p ∙ e)
+  blank-fails start i l u p = from-fails start i walk_levels (λ k. level_is ns is st k 0 0) l u (sym p)
 
   -- ---- the way
 
@@ -48,38 +45,20 @@ module _ (ns : List ℕ) (is : List ℤ) (st : ℕ) where
     way-one zero n l = absurd (lt_irrefl zero l)
     way-one (suc k) n l = rw sub-one
 
-    pub way_next : (W o : Bool) (k n n' x : ℕ) → 0 < k → x ≡ bucket b k index → o ≡ level_is ns is st k n x → o ≡ true → n' ≡ get_or cs (node_cells * n + x) 0
+    pub way_next : (W : Bool) (k n n' x : ℕ) → 0 < k → x ≡ bucket b k index → true ≡ level_is ns is st k n x → n' ≡ get_or cs (node_cells * n + x) 0
         → W ≡ way_ok cs ns is st b k n index → W ≡ way_ok cs ns is st b (k - 1) n' index
-    way_next W o k n n' x l p q e r w =
-        let t : level_is ns is st k n (bucket b k index) ≡ true = rw p at (sym q ∙ e) in
-        let m : n' ≡ get_or cs (node_cells * n + bucket b k index) 0 = rw p at r in
-        w ∙ way-one k n l ∙ sym (and_yes _ _ t) ∙ ap (λ (y : ℕ). way_ok cs ns is st b (k - 1) y index) (sym m)
+    way_next W k n n' x l p q r w = rw r (w ∙ way-one k n l ∙ (rw (← p, ← q)))
 
-    pub way-fails : (W o : Bool) (k n x : ℕ) → 0 < k → x ≡ bucket b k index → o ≡ level_is ns is st k n x → o ≡ false → W ≡ way_ok cs ns is st b k n index → false ≡ W
-    way-fails W o k n x l p q e w =
-        let t : level_is ns is st k n (bucket b k index) ≡ false = rw p at (sym q ∙ e) in
-        and_no _ _ t ∙ sym (way-one k n l) ∙ sym w
+    pub way-fails : (W : Bool) (k n x : ℕ) → 0 < k → x ≡ bucket b k index → false ≡ level_is ns is st k n x → W ≡ way_ok cs ns is st b k n index → false ≡ W
+    way-fails W k n x l p q w = sym (w ∙ way-one k n l ∙ (rw (← p, ← q)))
 
-    pub way-ends : (W o : Bool) (k n x : ℕ) → k ≤ 0 → x ≡ bucket b 0 index → o ≡ level_is ns is st 0 n x → W ≡ way_ok cs ns is st b k n index → o ≡ W
+    pub way-ends : (W o : Bool) (k n x : ℕ) → k < 1 → x ≡ bucket b 0 index → o ≡ level_is ns is st 0 n x → W ≡ way_ok cs ns is st b k n index → o ≡ W
     unfolding way_ok
     way-ends W o k n x l p q w =
         let z : k ≡ 0 = omega arith in
         let w' : W ≡ way_ok cs ns is st b 0 n index = rw z at w in
         let q' : o ≡ level_is ns is st 0 n (bucket b 0 index) = rw p at q in
         q' ∙ sym w'
-
--- ---- the shift of a height
-
-pub shift-takes : (b k s i m : ℕ) → LegalBits b → m ≡ mask b → s ≡ k * b → (bit_and (i / 2 ^ s) m ≡ bucket b k i) × (bit_and (i / 2 ^ s) m < node_cells)
-shift-takes b k s i m legal e f = rw f (bucket-computed b k i m legal.most e)
-
--- it falls by the bits with each level
-pub shift_falls : (b k s : ℕ) → 0 < k → s ≡ k * b → (b ≤ s) × (s - b ≡ (k - 1) * b)
-shift_falls b zero s l e = absurd (lt_irrefl zero l)
-shift_falls b (suc k) s l e = let one : suc k - 1 ≡ k = omega arith in (omega (arith, suc-mul k b), rw one (omega (arith, suc-mul k b)))
-
-pub lower-shift : (h b k : ℕ) → h * b < length_bits → k ≤ h → k * b < word_width
-lower-shift h b k l u = let m : k * b ≤ h * b = mul-le-mul_right b u in omega arith
 
 -- ---- a stack
 
@@ -88,20 +67,17 @@ module _ (cs ns : List ℕ) (is : List ℤ) (st : ℕ) (v : VersionRecord) (take
   unfolding stack_ok
   stack-none o e q = q ∙ cond_yes _ _ _ e
 
-  pub stack-fails : (h : ℕ) (o : Bool) → (eqb taken 0 || eqb taken v.length) ≡ false → h ≡ height_of v → o ≡ way_ok cs ns is st v.bits h v.root index → o ≡ false
-      → false ≡ stack_ok cs ns is st v taken index
+  pub stack-fails : (h : ℕ) → (eqb taken 0 || eqb taken v.length) ≡ false → h ≡ height_of v → false ≡ way_ok cs ns is st v.bits h v.root index → false ≡ stack_ok cs ns is st v taken index
   unfolding stack_ok
-  stack-fails h o e p q f =
-      let q' : o ≡ way_ok cs ns is st v.bits (height_of v) v.root index = rw p at q in
-      and_no _ _ (sym q' ∙ f) ∙ cond_no _ _ _ e
+  stack-fails h e p q = let q' : false ≡ way_ok cs ns is st v.bits (height_of v) v.root index = rw p at q in rw (e, ← q')
 
-  pub stack-ends : (h : ℕ) (o r : Bool) → (eqb taken 0 || eqb taken v.length) ≡ false → h ≡ height_of v → o ≡ way_ok cs ns is st v.bits h v.root index → o ≡ true
+  pub stack-ends : (h : ℕ) (r : Bool) → (eqb taken 0 || eqb taken v.length) ≡ false → h ≡ height_of v → true ≡ way_ok cs ns is st v.bits h v.root index
       → r ≡ blank_from ns is st (h + 1) → r ≡ stack_ok cs ns is st v taken index
   unfolding stack_ok
-  stack-ends h o r e p q f z =
-      let q' : o ≡ way_ok cs ns is st v.bits (height_of v) v.root index = rw p at q in
+  stack-ends h r e p q z =
+      let q' : true ≡ way_ok cs ns is st v.bits (height_of v) v.root index = rw p at q in
       let z' : r ≡ blank_from ns is st (suc (height_of v)) = rw (add-one, p) at z in
-      z' ∙ and_yes _ _ (sym q' ∙ f) ∙ cond_no _ _ _ e
+      rw (e, ← q') z'
 
 or-false : (a c : Bool) → (a || c) ≡ false → a ≡ false
 or-false true c e = e
@@ -129,12 +105,11 @@ module _ (cs a ns : List ℕ) (is : List ℤ) (n : ℕ) (v : VersionRecord) (sam
   pub agrees_back : front ≤ v.length → v.length - front < back → false ≡ walk_agrees cs (walks_of a ns is) n
   agrees_back l u = rw (le-leb front v.length l, lt-leb back (v.length - front) u) at agrees-is
 
-  pub agrees-forward : (o : Bool) → front ≤ v.length → back ≤ v.length - front → o ≡ stack_ok cs ns is (2 * n) v front front → o ≡ false
-      → false ≡ walk_agrees cs (walks_of a ns is) n
-  agrees-forward o l u p e = rw (le-leb front v.length l, le-leb back (v.length - front) u, ← p, e) at agrees-is
+  pub agrees-forward : front ≤ v.length → back ≤ v.length - front → false ≡ stack_ok cs ns is (2 * n) v front front → false ≡ walk_agrees cs (walks_of a ns is) n
+  agrees-forward l u p = rw (le-leb front v.length l, le-leb back (v.length - front) u, ← p) at agrees-is
 
-  pub agrees-ends : (o r : Bool) (last : ℕ) → front ≤ v.length → back ≤ v.length - front → o ≡ stack_ok cs ns is (2 * n) v front front → o ≡ true
+  pub agrees-ends : (r : Bool) (last : ℕ) → front ≤ v.length → back ≤ v.length - front → true ≡ stack_ok cs ns is (2 * n) v front front
       → last ≡ v.length - 1 - back → r ≡ stack_ok cs ns is (2 * n + 1) v back last → r ≡ walk_agrees cs (walks_of a ns is) n
-  agrees-ends o r last l u p e q z =
+  agrees-ends r last l u p q z =
       let z' : r ≡ stack_ok cs ns is (2 * n + 1) v back (v.length - 1 - back) = rw q at z in
-      z' ∙ (rw (le-leb front v.length l, le-leb back (v.length - front) u, ← p, e) at agrees-is)
+      z' ∙ (rw (le-leb front v.length l, le-leb back (v.length - front) u, ← p) at agrees-is)

@@ -1,70 +1,52 @@
-use mathlib.Core.Path.{refl, ap, ◌∙◌}
-use native.Mathlib.Nat.{pos_of_ne-zero}
-use native.Mathlib.Omega.{arith}
-use lib.ListN.{length, length-set}
-use borrow.Author.Tests.{not-true, not-false}
+use mathlib.Core.Path.{◌∙◌}
 use Rattle.audit_model.proofs.Steps.{through-start, through-next, through-fails, through-ends}
-use Rattle.audit_model.specs.Made.{nodes_of}
-use Rattle.audit_descent.proofs.Visiting.{visit-out, visit-again, visit-leaf, visit-refused, visit-fails, visit-marks, visit-child}
-use Rattle.audit_descent.proofs.Numbers.{ready-low, ready-below}
-use mathlib.Core.Bool.{not}
+use Rattle.audit_reads.specs.Slices.{nodes_in}
+use Rattle.audit_descent.proofs.Visiting.{visit-out, visit-again, visit-leaf, visit-no_leaf, visit-no_branch, visit-fails, visit-marks, visit-child}
 use Rattle.audit_descent.proofs.+descend.Goals as goal
 
--- `audit_descent::descend` meets its contract.
+pub returns-then-n-nodes : goal.returns-then-n-nodes
+returns-then-n-nodes t c = visit-out (nodes_in c.args.nodes.now) _ _ _ _ c.args.tree.height c.if-n-nodes.true
 
-pub returns-then-n-len : goal.returns-then-n-len
-returns-then-n-len t c = visit-out (nodes_of c.args.kinds.now c.args.used.now c.args.cells.now) _ _ _ _ c.args.height c.if-n-len.true
+pub returns-then-found-mark : goal.returns-then-found-mark
+returns-then-found-mark t c = visit-again (nodes_in c.args.nodes.now) _ _ _ _ c.args.tree.height _ _ c.if-n-nodes.false c.mark-mark.ensures c.at-found.ensures c.if-found-mark.true
 
-pub code_of-mark-requires : goal.code_of-mark-requires
-code_of-mark-requires t c = (c.requires.bits.most, ready-low _ _ _ c.requires, c.requires.size)
+pub returns-then-is_leaf : goal.returns-then-is_leaf
+returns-then-is_leaf t c =
+    visit-leaf (nodes_in c.args.nodes.now) _ _ _ _ c.args.tree.height _ _ _ _
+    (record { inside = c.if-n-nodes.false; mark = c.mark-mark.ensures; unmarked = λ e. c.if-found-mark.false (c.at-found.ensures ∙ e); kind = c.kind-kind.ensures; used = c.used-used.ensures })
+    c.if-tree-eq0.true c.if-is_leaf.ensures c.put_at.ensures
 
-pub returns-then-old-mark : goal.returns-then-old-mark
-returns-then-old-mark t c = visit-again (nodes_of c.args.kinds.now c.args.used.now c.args.cells.now) _ _ _ _ c.args.height _ _ c.if-n-len.false c.code_of-mark.ensures c.word_at-old.ensures c.if-old-mark.true
+pub returns-then-tree-eq0 : goal.returns-then-tree-eq0
+returns-then-tree-eq0 t c =
+    visit-no_leaf (nodes_in c.args.nodes.now) _ _ _ _ c.args.tree.height _ _ _
+    (record { inside = c.if-n-nodes.false; mark = c.mark-mark.ensures; unmarked = λ e. c.if-found-mark.false (c.at-found.ensures ∙ e); kind = c.kind-kind.ensures; used = c.used-used.ensures })
+    c.if-tree-eq0.true c.if-is_leaf.ensures
 
-pub leaf_ok-right-requires : goal.leaf_ok-right-requires
-leaf_ok-right-requires t c = c.requires.bits
-
-pub returns-then-height-eq0 : goal.returns-then-height-eq0
-returns-then-height-eq0 t c = visit-leaf (nodes_of c.args.kinds.now c.args.used.now c.args.cells.now) _ _ _ _ c.args.height _ _ _ _ _ (record { inside = c.if-n-len.false; mark = c.code_of-mark.ensures; unmarked = λ e. c.if-old-mark.false (c.word_at-old.ensures ∙ e); kind = c.byte_at-kind.ensures.0; used = c.byte_at-u.ensures.0 }) c.if-height-eq0.true c.leaf_ok-right.ensures c.at_leaf.ensures
-
-pub capacity-c-requires : goal.capacity-c-requires
-capacity-c-requires t c = record { legal = c.requires.bits; shift = c.requires.shift }
-
-pub branch_ok-fits-requires : goal.branch_ok-fits-requires
-branch_ok-fits-requires t c = (c.requires.bits, c.byte_at-u.ensures.1, c.capacity-c.ensures.1, c.requires.size)
-
-pub returns-then-not-fits : goal.returns-then-not-fits
-returns-then-not-fits t c = visit-refused (nodes_of c.args.kinds.now c.args.used.now c.args.cells.now) _ _ _ _ c.args.height _ _ _ _ _ (record { inside = c.if-n-len.false; mark = c.code_of-mark.ensures; unmarked = λ e. c.if-old-mark.false (c.word_at-old.ensures ∙ e); kind = c.byte_at-kind.ensures.0; used = c.byte_at-u.ensures.0 }) c.if-height-eq0.false c.capacity-c.ensures.0 c.branch_ok-fits.ensures.0 (not-true _ (ap not c.if-not-fits.true))
+pub returns-then-not-is_branch : goal.returns-then-not-is_branch
+returns-then-not-is_branch t c =
+    visit-no_branch (nodes_in c.args.nodes.now) _ _ _ _ c.args.tree.height _ _ _ _
+    (record { inside = c.if-n-nodes.false; mark = c.mark-mark.ensures; unmarked = λ e. c.if-found-mark.false (c.at-found.ensures ∙ e); kind = c.kind-kind.ensures; used = c.used-used.ensures })
+    c.if-tree-eq0.false c.capacity-c.ensures.0 c.if-not-is_branch.ensures.0
 
 pub loop-i-init : goal.loop-i-init
-loop-i-init t c = (refl, omega arith, through-start _ _)
+loop-i-init t c = through-start _ _
 
-pub share-m-requires : goal.share-m-requires
-share-m-requires t c = (c.capacity-c.ensures.1, omega (arith, c.loop-i-test.true, c.branch_ok-fits.ensures.1 (not-false _ (ap not c.if-not-fits.false))))
-
-pub overflow_sub-height : goal.overflow_sub-height
-overflow_sub-height t c = pos_of_ne-zero c.if-height-eq0.false
-
-pub descend-right-requires : goal.descend-right-requires
-descend-right-requires t c = (omega (arith, c.decreases, pos_of_ne-zero c.if-height-eq0.false), ready-below _ c.args.height _ _ _ _ c.requires c.share-m.ensures)
-
-pub shape_of-codes-then-not-right : goal.shape_of-codes-then-not-right
-shape_of-codes-then-not-right t c = c.descend-right.auto.codes ∙ c.loop-i.invariant.0
-
-pub returns-then-not-right : goal.returns-then-not-right
-returns-then-not-right t c = visit-fails (nodes_of c.args.kinds.now c.args.used.now c.args.cells.now) _ _ _ _ c.args.height _ _ _ _ _ _ (record { inside = c.if-n-len.false; mark = c.code_of-mark.ensures; unmarked = λ e. c.if-old-mark.false (c.word_at-old.ensures ∙ e); kind = c.byte_at-kind.ensures.0; used = c.byte_at-u.ensures.0 }) c.if-height-eq0.false c.capacity-c.ensures.0 c.branch_ok-fits.ensures.0 (not-false _ (ap not c.if-not-fits.false)) (through-fails _ _ c.loop-i.i _ c.loop-i.codes _ c.descend-right.result c.loop-i-test.true c.loop-i.invariant.2 (visit-child (nodes_of c.args.kinds.now c.args.used.now c.args.cells.now) _ _ _ _ _ _ _ _ c.loop-i.codes _ c.share-m.ensures c.cell_at-child.ensures c.descend-right.ensures) (not-true _ (ap not c.if-not-right.true)))
-
-pub overflow_add-i : goal.overflow_add-i
-overflow_add-i t c = record { fits = omega (arith, c.loop-i-test.true, c.branch_ok-fits.ensures.1 (not-false _ (ap not c.if-not-fits.false))) }
-
-pub loop-i-smaller : goal.loop-i-smaller
-loop-i-smaller t c = omega (arith, c.loop-i-test.true)
+pub returns-then-not-descend : goal.returns-then-not-descend
+returns-then-not-descend t c =
+    visit-fails (nodes_in c.args.nodes.now) _ _ _ _ c.args.tree.height _ _ _ _ _
+    (record { inside = c.if-n-nodes.false; mark = c.mark-mark.ensures; unmarked = λ e. c.if-found-mark.false (c.at-found.ensures ∙ e); kind = c.kind-kind.ensures; used = c.used-used.ensures })
+    c.if-tree-eq0.false c.capacity-c.ensures.0 c.if-not-is_branch.ensures.0
+    (through-fails _ _ c.loop-i.i _ c.loop-i.codes _ c.loop-i-test.true c.loop-i.invariant
+    (visit-child (nodes_in c.args.nodes.now) _ _ _ _ _ _ _ _ _ _ c.loop-i.codes _ c.child.ensures.bits c.child.ensures.height c.child.ensures.size c.cell.ensures c.if-not-descend.ensures))
 
 pub loop-i-preserved : goal.loop-i-preserved
-loop-i-preserved t c = (c.descend-right.auto.codes ∙ c.loop-i.invariant.0, omega (arith, c.loop-i-test.true), through-next _ _ c.loop-i.i c.loop-i.codes _ c.descend-right.result c.loop-i.invariant.2 (visit-child (nodes_of c.args.kinds.now c.args.used.now c.args.cells.now) _ _ _ _ _ _ _ _ c.loop-i.codes _ c.share-m.ensures c.cell_at-child.ensures c.descend-right.ensures) (not-false _ (ap not c.if-not-right.false)))
-
-pub shape_of-codes : goal.shape_of-codes
-shape_of-codes t c = ap length c.put_at.ensures ∙ simp length-set c.loop-i.invariant.0
+loop-i-preserved t c =
+    through-next _ _ c.loop-i.i c.loop-i.codes _ c.loop-i.invariant
+    (visit-child (nodes_in c.args.nodes.now) _ _ _ _ _ _ _ _ _ _ c.loop-i.codes _ c.child.ensures.bits c.child.ensures.height c.child.ensures.size c.cell.ensures c.if-not-descend.ensures)
 
 pub returns : goal.returns
-returns t c = visit-marks (nodes_of c.args.kinds.now c.args.used.now c.args.cells.now) _ _ _ _ c.args.height _ _ _ _ _ c.loop-i.codes _ (record { inside = c.if-n-len.false; mark = c.code_of-mark.ensures; unmarked = λ e. c.if-old-mark.false (c.word_at-old.ensures ∙ e); kind = c.byte_at-kind.ensures.0; used = c.byte_at-u.ensures.0 }) c.if-height-eq0.false c.capacity-c.ensures.0 c.branch_ok-fits.ensures.0 (not-false _ (ap not c.if-not-fits.false)) (through-ends _ _ c.loop-i.i _ _ c.loop-i.invariant.2 c.loop-i.invariant.1 c.loop-i-test.false) c.put_at.ensures
+returns t c =
+    visit-marks (nodes_in c.args.nodes.now) _ _ _ _ c.args.tree.height _ _ _ _ c.loop-i.codes _
+    (record { inside = c.if-n-nodes.false; mark = c.mark-mark.ensures; unmarked = λ e. c.if-found-mark.false (c.at-found.ensures ∙ e); kind = c.kind-kind.ensures; used = c.used-used.ensures })
+    c.if-tree-eq0.false c.capacity-c.ensures.0 c.if-not-is_branch.ensures.0
+    (through-ends _ _ c.loop-i.i _ _ c.loop-i.invariant c.loop-i.auto.i-end c.loop-i-test.false) c.put_at-2.ensures

@@ -1,7 +1,0 @@
-use Rattle.audit_descent.proofs.Numbers.{capacity-is}
-use Rattle.audit_descent.proofs.capacity.Goals as goal
-
--- `audit_descent::capacity` meets its contract.
-
-pub returns : goal.returns
-returns c = capacity-is c.args.bits c.args.height c.requires.shift
