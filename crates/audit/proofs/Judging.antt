@@ -1,18 +1,18 @@
 -- What the passes give is what the model says, and so what the meaning says.
 use mathlib.Core.Path.{◌≡◌, refl, sym, ap, ◌∙◌}
 use mathlib.Core.Bool.{Bool, true, false, cond, ◌&&◌}
-use mathlib.Core.List.{List, []}
+use mathlib.Core.List.{List}
 use Prim.Native.Nat.{ℕ}
 use native.Mathlib.Omega.{arith}
 use lib.ListN.{get_or, replicate}
 use Rattle.meaning.specs.Limits.{version_count, walk_count}
 use Rattle.meaning.specs.Lent.{Nodes, walk_record, Lent, size, is_free, free_nodes}
 use Rattle.meaning.specs.WellFormed.{WellFormed}
-use Rattle.audit_model.specs.Made.{kinds_of, walk_version, lent_of}
+use Rattle.audit_model.specs.Made.{kinds_of, walk_version}
 use Rattle.audit_model.specs.Descent.{answer}
 use Rattle.audit_model.specs.Records.{all_to}
 use Rattle.audit_model.specs.Tallies.{raise_to, roots_tally, nodes_tally}
-use Rattle.audit_model.specs.Audit.{Blank, record_at, versions_ok, walks_ok, records_ok, order_ok, tallies, node_ok, nodes_ok, rest_ok}
+use Rattle.audit_model.specs.Audit.{Blank, record_at, records_ok, order_ok, tallies, node_ok, nodes_ok, rest_ok}
 use Rattle.audit_model.proofs.Tests.{true≢false}
 use Rattle.audit_model.proofs.Decides.{rest-sound, rest-complete}
 use Rattle.audit_model.proofs.Sizes.{lengths, lengths-unfit, blank-zeros}
@@ -51,22 +51,18 @@ module _ (s : Lent) (z y : List ℕ) (ready : Cleared s z y) where
   rest-fails : (w : Bool) (f : ℕ) → rest_ok s z ≡ false → (w ≡ false) × (f ≡ 0) → Judged s w f
   rest-fails w f e j = refused s w f (λ W. true≢false (sym (rest-complete s ready.sizes z ready.codes W) ∙ e)) j
 
-  -- the part of the state that the records' pass reads
-  abbrev part : Lent
-  part = lent_of s.nodes [] [] s.versions s.walks
-
-  rest-is : (o : Bool) (t : List ℕ) → answer o t ≡ records_ok part z → rest_ok s z ≡ ((o && order_ok s) && nodes_ok s t (tallies s z))
-  unfolding rest_ok records_ok versions_ok walks_ok
+  rest-is : (o : Bool) (t : List ℕ) → answer o t ≡ records_ok s z → rest_ok s z ≡ ((o && order_ok s) && nodes_ok s t (tallies s z))
+  unfolding rest_ok
   rest-is o t e = rw (← e)
 
   order_is : (f : ℕ) (i : Bool) → f ≡ free_nodes (kinds_of s.nodes.kinds) → i ≡ all_to f (λ j. is_free (kinds_of s.nodes.kinds) (get_or s.order j 0)) → i ≡ order_ok s
   unfolding order_ok is_free free_nodes
   order_is f i p q = rw p at q
 
-  pub by-records : (o : Bool) (t : List ℕ) (w : Bool) (f : ℕ) → answer o t ≡ records_ok part z → o ≡ false → (w ≡ false) × (f ≡ 0) → Judged s w f
+  pub by-records : (o : Bool) (t : List ℕ) (w : Bool) (f : ℕ) → answer o t ≡ records_ok s z → o ≡ false → (w ≡ false) × (f ≡ 0) → Judged s w f
   by-records o t w f e q j = rest-fails w f (rest-is o t e ∙ rw q) j
 
-  pub by_order : (o : Bool) (t : List ℕ) (n : ℕ) (i w : Bool) (f : ℕ) → answer o t ≡ records_ok part z → o ≡ true → n ≡ free_nodes (kinds_of s.nodes.kinds)
+  pub by_order : (o : Bool) (t : List ℕ) (n : ℕ) (i w : Bool) (f : ℕ) → answer o t ≡ records_ok s z → o ≡ true → n ≡ free_nodes (kinds_of s.nodes.kinds)
       → i ≡ all_to n (λ j. is_free (kinds_of s.nodes.kinds) (get_or s.order j 0)) → i ≡ false → (w ≡ false) × (f ≡ 0) → Judged s w f
   by_order o t n i w f e q p r x j = rest-fails w f (rest-is o t e ∙ rw (q, ← (order_is n i p r), x)) j
 
@@ -79,7 +75,7 @@ module _ (s : Lent) (z y : List ℕ) (ready : Cleared s z y) where
       let q' : t₁ ≡ raise_to (free_nodes s.nodes) (λ j. get_or s.order j 0) z = rw (m, ready.tallies) at q in
       rw q' at r
 
-  pub by-nodes : (o : Bool) (t : List ℕ) (n : ℕ) (i : Bool) (t₁ t₂ : List ℕ) (r w : Bool) (f : ℕ) → answer o t ≡ records_ok part z → o ≡ true
+  pub by-nodes : (o : Bool) (t : List ℕ) (n : ℕ) (i : Bool) (t₁ t₂ : List ℕ) (r w : Bool) (f : ℕ) → answer o t ≡ records_ok s z → o ≡ true
       → n ≡ free_nodes (kinds_of s.nodes.kinds) → i ≡ all_to n (λ j. is_free (kinds_of s.nodes.kinds) (get_or s.order j 0)) → i ≡ true
       → t₁ ≡ raise_to n (λ j. get_or s.order j 0) y
       → t₂ ≡ nodes_tally s.nodes (size s) (roots_tally walk_count (walk_version s.walks.numbers) (roots_tally version_count (record_at s.versions) t₁))

@@ -6,6 +6,8 @@ ghost use Rattle.meaning.specs.Limits.{max_nodes};
 ghost use Rattle.audit_reads.specs.Slices.{lent_from};
 ghost use Rattle.audit.specs.Audited.{Judged, Cleared, Small};
 
+use audit_reads::{Lent, Nodes, Walks};
+
 #[derive(Clone, Copy)]
 pub struct Audited {
     pub ok: bool,
@@ -48,16 +50,22 @@ pub fn audit_with(
     ensures { Judged (lent_from kinds.now used.now counts.now cells.now order.now versions
         walk_numbers.now walk_nodes.now walk_indices.now) result.ok result.free }
 {
-    let right = audit_records::records_ok(
-        kinds,
-        used,
-        cells,
-        codes,
-        versions,
-        walk_numbers,
-        walk_nodes,
-        walk_indices,
-    );
+    let lent = Lent {
+        nodes: Nodes {
+            kinds: kinds,
+            used: used,
+            cells: cells,
+        },
+        counts: counts,
+        order: order,
+        versions: &versions,
+        walks: Walks {
+            numbers: walk_numbers,
+            nodes: walk_nodes,
+            indices: walk_indices,
+        },
+    };
+    let right = audit_records::records_ok(lent, codes);
     if !right {
         return judged(false, 0);
     }
