@@ -23,7 +23,7 @@ pub fn first_difference(
     requires limit { to ≤ max_length }
     ensures { FirstDifference cells.now bits height n.0 m.0 from to result }
 {
-    if n.0 == m.0 {
+    if n == m {
         return to;
     }
     if height == 0 {

@@ -7,11 +7,11 @@ ghost use Rattle.meaning.specs.Lent.{empty_record};
 ghost use Rattle.records.specs.Records.{record_of, live_version, lengthened};
 
 // The number of a node.
-#[derive(Clone, Copy)]
+#[derive(Clone, Copy, PartialEq, Eq)]
 pub struct NodeNo(pub u32);
 
 // The number of a version slot among all 64: another kind of number than a node's.
-#[derive(Clone, Copy)]
+#[derive(Clone, Copy, PartialEq, Eq)]
 pub struct SlotNo(pub u32);
 
 // What a call may take nodes from.
@@ -22,7 +22,7 @@ pub struct Supply {
 
 // A version record. Any numbers may stand in a lent one; the audit says which are legal.
 #[repr(C)]
-#[derive(Clone, Copy)]
+#[derive(Clone, Copy, Default, PartialEq, Eq)]
 pub struct Version {
     pub live: u32,
     pub root: u32,
@@ -37,12 +37,7 @@ impl Version {
     pub fn empty() -> Version
         ensures { record_of result ≡ empty_record }
     {
-        Version {
-            live: 0,
-            root: 0,
-            bits: 0,
-            length: 0,
-        }
+        Version::default()
     }
 
     // The version of no elements, over an empty leaf.
@@ -52,7 +47,7 @@ impl Version {
         Version {
             live: 1,
             root: root.0,
-            bits: bits,
+            bits,
             length: 0,
         }
     }
@@ -68,11 +63,6 @@ impl Version {
     pub fn with_length(self, length: u32) -> Version
         ensures { result ≡ lengthened self length }
     {
-        Version {
-            live: self.live,
-            root: self.root,
-            bits: self.bits,
-            length: length,
-        }
+        Version { length, ..self }
     }
 }

@@ -28,16 +28,19 @@ fn show_bucket(rt: &impl Print, bits: u32, index: u32, height: u32) -> io::Resul
 }
 
 fn main(rt: HostRuntime) -> io::Result<()> {
-    show_root(&rt, 5, 32768)?;
-    show_root(&rt, 5, 1025)?;
-    show_root(&rt, 1, 32768)?;
-    show_root(&rt, 1, 32767)?;
-    show_bucket(&rt, 5, 32767, 2)?;
-    show_bucket(&rt, 5, 1057, 2)?;
-    show_bucket(&rt, 5, 1057, 1)?;
-    show_bucket(&rt, 5, 1058, 0)?;
-    show_bucket(&rt, 5, 4294967295, 6)?;
-    show_bucket(&rt, 1, 16384, 14)?;
-    show_bucket(&rt, 1, 16384, 13)?;
+    for (bits, length) in [(5, 32768), (5, 1025), (1, 32768), (1, 32767)] {
+        show_root(&rt, bits, length)?;
+    }
+    for (bits, index, height) in [
+        (5, 32767, 2),
+        (5, 1057, 2),
+        (5, 1057, 1),
+        (5, 1058, 0),
+        (5, u32::MAX, 6),
+        (1, 16384, 14),
+        (1, 16384, 13),
+    ] {
+        show_bucket(&rt, bits, index, height)?;
+    }
     Ok(())
 }

@@ -1,37 +1,10 @@
-use native.Mathlib.Nat.{lt_irrefl, pos_of_ne-zero}
+use native.Mathlib.Nat.{pos_of_ne-zero}
 use native.Mathlib.Omega.{arith}
 use Rattle.meaning.specs.Limits.{word_width}
 use Rattle.lookup.proofs.Found.{shift-below}
 use Rattle.compare.proofs.Spans.{end_after, end-within}
-use Rattle.compare.proofs.Ranges.{shared_same, none-differs, child-differs, child-goes-on}
+use Rattle.compare.proofs.Ranges.{none-differs, child-differs, child-goes-on}
 use Rattle.compare.proofs.differences.+first_difference.Goals as goal
-
-pub returns-then-n-m : goal.returns-then-n-m
-returns-then-n-m t c = shared_same c.args.cells.now c.args.bits c.args.height c.args.n.0 c.args.m.0 c.args.from c.args.to c.requires.range c.if-n-m.true
-
-pub in_leaf-requires : goal.in_leaf-requires
-in_leaf-requires t c = record { legal = c.requires.legal; range = c.requires.range }
-
-pub returns-then-height-eq0 : goal.returns-then-height-eq0
-returns-then-height-eq0 t c = rw c.if-height-eq0.true c.in_leaf.ensures
-
-pub loop-i-init : goal.loop-i-init
-loop-i-init t c = (omega arith, c.requires.range, λ j l k. absurd (lt_irrefl j (omega arith)))
-
-pub bucket-b-requires : goal.bucket-b-requires
-bucket-b-requires t c = record { legal = c.requires.legal; shift = c.requires.shift }
-
-pub cell_at-x-requires : goal.cell_at-x-requires
-cell_at-x-requires t c = tt
-
-pub cell_at-y-requires : goal.cell_at-y-requires
-cell_at-y-requires t c = tt
-
-pub child_end-e-requires : goal.child_end-e-requires
-child_end-e-requires t c = record { shift = c.requires.shift; limit = omega (arith, c.requires.limit, c.loop-i.invariant.1) }
-
-pub overflow_sub-height : goal.overflow_sub-height
-overflow_sub-height t c = pos_of_ne-zero c.if-height-eq0.false
 
 pub first_difference-r-requires : goal.first_difference-r-requires
 first_difference-r-requires t c =
