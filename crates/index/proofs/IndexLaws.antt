@@ -3,13 +3,17 @@ use mathlib.Core.Path.{◌≡◌, refl, ap, ◌∙◌}
 use mathlib.Core.Bool.{Bool, true, false, cond}
 use Prim.Native.Nat.{ℕ, suc, ◌+◌, ◌-◌, ◌^◌, ◌≤◌, ◌<◌}
 use native.Mathlib.Omega.{arith}
+use native.Mathlib.Nat.{lt_irrefl}
+use mathlib.Core.Logic.{◌≢◌}
 use lib.Dec.{T, ltb, lit<}
 use lib.IntN.{ℤ, pos, negsuc, ◌+ℤ◌, ◌-ℤ◌, nat_abs}
-use lib.Signed.{mag, lt_z, le_z, non_neg}
+use lib.Signed.{mag, lt_z, le_z}
+use Rattle.std.specs.Prelude.{int_lt}
+use Rattle.std.specs.Int.{int_max}
 use mir.Syntax.{w32}
 use mir.Val.{SFits, Fits, to_z, of_z}
 use mir.Facts.{to_z-of_z, to_z_pos}
-use borrow.Author.Tests.{ltb-true, lt-ltb, le-ltb, lt-leb, leb-false}
+use borrow.Author.Tests.{ltb-true, ltb-false, lt-ltb, le-ltb, lt-leb}
 use Rattle.meaning.specs.Limits.{node_cells}
 use Rattle.index.specs.Index.{first, advanced, finished, place, along, Within, InUse, Stays}
 
@@ -71,39 +75,21 @@ pub finished-fore : (u : ℕ) (z : ℤ) (b : Bool) → b ≡ false → u < 256 �
 unfolding finished
 finished-fore u z b e h f = rw (e, read z f, used-is u h)
 
-below-place : (z : ℤ) → lt_z z (pos 0) ≡ true → ◌≡◌ {A = ℕ} 0 (place z)
+held-place : (z : ℤ) → nat_abs (int_max z (pos 0)) ≡ place z
 unfolding place
-below-place (pos n) e = let h : n < 0 = ltb-true n 0 e in absurd (omega arith)
-below-place (negsuc n) e = refl
+held-place (pos n) = by (int_lt (pos 0) (pos n)) refl
+  where
+    by : (t : Bool) → int_lt (pos 0) (pos n) ≡ t → nat_abs (cond t (pos n) (pos 0)) ≡ n
+    by true e = refl
+    by false e = let h : n ≤ 0 = ltb-false 0 n e in omega arith
+held-place (negsuc n) = refl
 
-pub place_none : (z : ℤ) → SFits w32 z → lt_z (to_z w32 (of_z w32 z)) (pos 0) ≡ true → ◌≡◌ {A = ℕ} 0 (place z)
-place_none z f e = below-place z (rw (read z f) at e)
-
-not-below : (z : ℤ) → lt_z z (pos 0) ≡ false → T (non_neg z) × (nat_abs z ≡ place z)
-unfolding place
-not-below (pos n) e = (tt, refl)
-not-below (negsuc n) e = let z : ◌≡◌ {A = ℕ} 0 1 = cc in absurd (omega arith)
-
-nat-small : (z : ℤ) → mag z < 2 ^ 31 → nat_abs z < 2 ^ 32
-nat-small (pos n) h = omega arith
-nat-small (negsuc n) h = omega arith
-
-pub place-fits : (z : ℤ) → SFits w32 z → lt_z (to_z w32 (of_z w32 z)) (pos 0) ≡ false → T (non_neg (to_z w32 (of_z w32 z))) × Fits w32 (nat_abs (to_z w32 (of_z w32 z)))
-place-fits z f e = rw (read z f) ((not-below z (rw (read z f) at e)).0, record { fits = nat-small z f.sfits })
-
-pub place_is : (z : ℤ) → SFits w32 z → lt_z (to_z w32 (of_z w32 z)) (pos 0) ≡ false → nat_abs (to_z w32 (of_z w32 z)) ≡ place z
-place_is z f e = rw (read z f) (not-below z (rw (read z f) at e)).1
-
--- what a callee answered for one direction is the answer for the direction that was asked
-pub first_by : (b d : Bool) (u : ℕ) (z : ℤ) → b ≡ d → mag z < 2 ^ 31 → z ≡ first d u → to_z w32 (of_z w32 z) ≡ first b u
-first_by b d u z e f p = rw (read z (record { sfits = f }), e) p
+pub place_is : (z r : ℤ) → SFits w32 z → mag r < 2 ^ 31 → r ≡ int_max (to_z w32 (of_z w32 z)) (pos 0) → nat_abs (to_z w32 (of_z w32 r)) ≡ place z
+place_is z r f h p = rw (read r (record { sfits = h }), p, read z f) (held-place z)
 
 pub first-fore : (b : Bool) (u : ℕ) → b ≡ false → pos 0 ≡ first b u
 unfolding first
 first-fore b u e = rw e
-
-pub advanced-by : (b d : Bool) (j z : ℤ) → b ≡ d → SFits w32 j → mag z < 2 ^ 31 → z ≡ advanced d (to_z w32 (of_z w32 j)) → to_z w32 (of_z w32 z) ≡ advanced b j
-advanced-by b d j z e g f p = rw (read z (record { sfits = f }), e) (rw (read j g) at p)
 
 -- an empty leaf walked from the back starts at index -1, and has finished: it yields nothing
 pub empty_leaf : (first true 0 ≡ negsuc 0) × (finished true 0 (first true 0) ≡ true)
@@ -112,28 +98,16 @@ empty_leaf = (refl, refl)
 
 -- ---- so many steps at once
 
-past_first : (z : ℤ) → le_z z (pos 0) ≡ false → (lt_z z (pos 0) ≡ false) × ((z ≡ pos (place z)) × (0 < place z))
+-- what is not at the first cell, nor below it
+is-place : (z : ℤ) → 0 < place z → z ≡ pos (place z)
 unfolding place
-past_first (pos n) e = let h : 0 < n = leb-false n 0 e in (le-ltb n 0 (omega arith), (refl, h))
-past_first (negsuc n) e = let z : ◌≡◌ {A = ℕ} 0 1 = cc in absurd (omega arith)
+is-place (pos n) h = refl
+is-place (negsuc n) h = absurd (lt_irrefl 0 h)
 
-pub not_first : (z : ℤ) → le_z (to_z w32 (of_z w32 z)) (pos 0) ≡ false → lt_z (to_z w32 (of_z w32 z)) (pos 0) ≡ false
-not_first z e = (past_first (to_z w32 (of_z w32 z)) e).0
-
-pub stays : (b : Bool) (u : ℕ) (z : ℤ) (r : ℕ) → SFits w32 z → le_z (to_z w32 (of_z w32 z)) (pos 0) ≡ false
-    → (0 < r → Within b (nat_abs (to_z w32 (of_z w32 z))) r × InUse b u (nat_abs (to_z w32 (of_z w32 z))) r) → 0 < r → Stays b u z r
-stays b u z r f e h p =
-    let i : nat_abs (to_z w32 (of_z w32 z)) ≡ place z = place_is z f (not_first z e) in
-    let q : Within b (place z) r × InUse b u (place z) r = rw i at (h p) in
-    let t : (lt_z z (pos 0) ≡ false) × ((z ≡ pos (place z)) × (0 < place z)) = past_first z (rw (read z f) at e) in
-    record { cell = t.1.0; past = t.1.1; within = q.0; in_use = q.1 }
-
-pub left_below : (b : Bool) (u i r : ℕ) → b ≡ true → (0 < r → Within true i r) → 0 < r → Within b i r × InUse b u i r
-unfolding Within InUse
-left_below b u i r e h p = rw e (h p, (h p).0)
-
-pub left-above : (b : Bool) (u i r : ℕ) → b ≡ false → (0 < r → Within false i r × InUse false u i r) → 0 < r → Within b i r × InUse b u i r
-left-above b u i r e h p = rw e (h p)
+pub stays : (b : Bool) (u : ℕ) (z : ℤ) (i r : ℕ) → SFits w32 z → i ≡ place (to_z w32 (of_z w32 z)) → i ≢ 0 → Within b i r → InUse b u i r → Stays b u z r
+stays b u z i r f p n w l =
+    let e : i ≡ place z = p ∙ ap place (read z f) in
+    record { cell = is-place z (omega arith); past = omega arith; within = rw e at w; in_use = rw e at l }
 
 pub downwards : (b : Bool) (i m : ℕ) → b ≡ true → Within b i m → (m ≤ i) × ((i - m ≡ along b i m) × (i - m < node_cells))
 unfolding Within along

@@ -5,6 +5,8 @@ ghost use Rattle.std.specs.Prelude.{◌≡◌, Bool, true, false, ◌<◌, pos};
 ghost use Rattle.meaning.specs.Limits.{node_cells};
 ghost use Rattle.index.specs.Index as spec;
 
+use limits::words;
+
 // The index past the last cell.
 const PAST_LAST: i32 = limits::NODE_CELLS as i32;
 
@@ -12,64 +14,37 @@ const PAST_LAST: i32 = limits::NODE_CELLS as i32;
 pub fn first(back: bool, used: u8) -> i32
     ensures { result ≡ spec.first back used }
 {
-    if back {
-        return last(used);
-    }
-    0
+    if back { used as i32 - 1 } else { 0 }
 }
 
-fn last(used: u8) -> i32
-    ensures { result ≡ spec.first true used }
-{
-    (used as i32) - 1
-}
-
+// Forward it is held past the last cell, backward it stops below zero.
 pub fn advance(back: bool, index: i32) -> i32
     ensures { result ≡ spec.advanced back index }
 {
     if back {
-        return down(index);
+        if index < 0 { -1 } else { index - 1 }
+    } else if index < PAST_LAST {
+        index + 1
+    } else {
+        PAST_LAST
     }
-    up(index)
-}
-
-// Held past the last cell.
-fn up(index: i32) -> i32
-    ensures { result ≡ spec.advanced false index }
-{
-    if index < PAST_LAST {
-        return index + 1;
-    }
-    PAST_LAST
-}
-
-// Stops below zero.
-fn down(index: i32) -> i32
-    ensures { result ≡ spec.advanced true index }
-{
-    if index < 0 {
-        return -1;
-    }
-    index - 1
 }
 
 pub fn finished(back: bool, used: u8, index: i32) -> bool
     ensures { result ≡ spec.finished back used index }
 {
     if back {
-        return index < 0;
+        index < 0
+    } else {
+        used as i32 <= index
     }
-    used as i32 <= index
 }
 
 // The cell that an index names, 0 for one below zero.
 pub fn place(index: i32) -> u32
     ensures { result ≡ spec.place index }
 {
-    if index < 0 {
-        return 0;
-    }
-    index as u32
+    index.max(0) as u32
 }
 
 // ---- so many steps at once
@@ -78,41 +53,17 @@ pub fn place(index: i32) -> u32
 pub fn staying(back: bool, used: u8, index: i32) -> u32
     ensures { 0 < result → spec.Stays back used index result }
 {
-    if index <= 0 {
-        return 0;
+    let i = place(index);
+    let used = used as u32;
+    if i == 0 {
+        0
+    } else if back {
+        if i < words::NODE_CELLS { i } else { 0 }
+    } else if used <= words::NODE_CELLS {
+        used.saturating_sub(i).saturating_sub(1)
+    } else {
+        0
     }
-    cells_left(back, used, index as u32)
-}
-
-fn cells_left(back: bool, used: u8, i: u32) -> u32
-    ensures { 0 < result → spec.Within back i result × spec.InUse back used i result }
-{
-    if back {
-        return below(i);
-    }
-    above(used, i)
-}
-
-fn below(i: u32) -> u32
-    ensures { 0 < result → spec.Within true i result }
-{
-    if i < limits::words::NODE_CELLS {
-        return i;
-    }
-    0
-}
-
-fn above(used: u8, i: u32) -> u32
-    ensures { 0 < result → spec.Within false i result × spec.InUse false used i result }
-{
-    let u = used as u32;
-    if u <= i {
-        return 0;
-    }
-    if u > limits::words::NODE_CELLS {
-        return 0;
-    }
-    u - 1 - i
 }
 
 // The cell that m steps from cell i lead to.
@@ -120,10 +71,7 @@ pub fn along(back: bool, i: u32, m: u32) -> u32
     requires { spec.Within back i m }
     ensures { (result ≡ spec.along back i m) × (result < node_cells) }
 {
-    if back {
-        return i - m;
-    }
-    i + m
+    if back { i - m } else { i + m }
 }
 
 // The index that names a cell.

@@ -10,5 +10,5 @@ returns-then-back c = (downwards _ _ _ c.if-back.true c.requires).1
 pub overflow_add-result : goal.overflow_add-result
 overflow_add-result c = (upwards _ _ _ c.if-back.false c.requires).0
 
-pub returns : goal.returns
-returns c = (upwards _ _ _ c.if-back.false c.requires).1
+pub returns-else-back : goal.returns-else-back
+returns-else-back c = (upwards _ _ _ c.if-back.false c.requires).1

@@ -1,8 +1,8 @@
-use Rattle.index.proofs.IndexLaws.{first_by, first-fore}
+use Rattle.index.proofs.IndexLaws.{last-is, first-fore}
 use Rattle.index.proofs.first.Goals as goal
 
 pub returns-then-back : goal.returns-then-back
-returns-then-back c = first_by _ _ _ _ c.if-back.true c.last.type_inv c.last.ensures
+returns-then-back c = rw c.if-back.true (last-is c.args.used c.ranges.used.fits)
 
-pub returns : goal.returns
-returns c = first-fore _ _ c.if-back.false
+pub returns-else-back : goal.returns-else-back
+returns-else-back c = first-fore _ _ c.if-back.false

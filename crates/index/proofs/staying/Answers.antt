@@ -1,12 +1,13 @@
-use native.Mathlib.Nat.{lt_irrefl}
-use Rattle.index.proofs.IndexLaws.{place-fits, not_first, stays}
+use mathlib.Core.Bool.{true, false}
+use native.Mathlib.Omega.{arith}
+use Rattle.index.specs.Index.{Within, InUse}
+use Rattle.index.proofs.IndexLaws.{stays}
 use Rattle.index.proofs.staying.Goals as goal
 
-pub returns-then-index-le0 : goal.returns-then-index-le0
-returns-then-index-le0 c = λ p. absurd (lt_irrefl 0 p)
+pub returns-then-i-lt-NODE_CELLS : goal.returns-then-i-lt-NODE_CELLS
+unfolding Within InUse
+returns-then-i-lt-NODE_CELLS c = λ p. rw c.if-back.true (stays true _ _ _ _ c.ranges.index c.place-i.ensures c.if-i-eq0.false (omega arith, omega arith) (omega arith))
 
-pub overflow_cast-index : goal.overflow_cast-index
-overflow_cast-index c = place-fits c.args.index c.ranges.index (not_first c.args.index c.if-index-le0.false)
-
-pub returns : goal.returns
-returns c = stays _ _ c.args.index _ c.ranges.index c.if-index-le0.false c.cells_left.ensures
+pub returns-then-used-le-NODE_CELLS : goal.returns-then-used-le-NODE_CELLS
+unfolding Within InUse
+returns-then-used-le-NODE_CELLS c = λ p. rw c.if-back.false (stays false _ _ _ _ c.ranges.index c.place-i.ensures c.if-i-eq0.false (omega arith) (omega arith))
