@@ -1,15 +1,10 @@
 -- What the code computes is what is meant.
-use mathlib.Core.Path.{◌≡◌, refl, ap, ◌∙◌}
-use mathlib.Core.Bool.{Bool, true, false}
-use Prim.Native.Nat.{ℕ, zero, suc, ◌+◌, ◌-◌, ◌*◌, ◌/◌, ◌%◌, ◌^◌, ◌≤◌, ◌<◌}
-use native.Mathlib.Nat.{lt_irrefl, div-add-mod', div-le_self}
+use mathlib.Core.Path.{◌≡◌, refl, ◌∙◌}
+use Prim.Native.Nat.{ℕ, zero, suc, min, ◌+◌, ◌-◌, ◌*◌, ◌/◌, ◌%◌, ◌^◌, ◌≤◌, ◌<◌}
+use native.Mathlib.Nat.{lt_irrefl, div-add-mod'}
 use native.Mathlib.Omega.{arith}
 use lib.Bits.{bit_and, and_mask}
 use lib.Count.{count_leading_zeros, leading_top}
-use lib.Dec.{ltb}
-use mir.Syntax.{w32}
-use mir.Val.{Fits, bool_byte}
-use borrow.Author.Tests.{lt-ltb}
 use Rattle.meaning.specs.Limits.{node_cells, max_bits, length_bits, walk_levels, word_width}
 use Rattle.meaning.specs.Shape.{degree, mask, bucket, bits_to_write, if_left, levels, height, root_max_capacity}
 use Rattle.shape.specs.Legal.{Legal}
@@ -25,33 +20,24 @@ bucket-computed b h i m hb e =
     let is : bit_and (i / 2 ^ (h * b)) m ≡ bucket b h i = rw e (and_mask (i / 2 ^ (h * b)) b) in
     (is, rw is (omega (arith, bucket-below b h i, degree-most b hb)))
 
--- ---- `c / bits + (c % bits > 0) as u32 - 1`, where c is `BITS - u32::leading_zeros(u)`
+-- ---- `c.div_ceil(bits) - 1`, where c is `BITS - u.leading_zeros()`
 
 pub written-least : (u : ℕ) → 1 ≤ u → u < 2 ^ word_width → 1 ≤ word_width - count_leading_zeros word_width u
 written-least u hu l = let t = leading_top word_width u hu l in omega (arith, t.1)
 
-left-computed : (r : ℕ) → bool_byte (ltb 0 r) ≡ if_left r
+left-computed : (r : ℕ) → min 1 r ≡ if_left r
 unfolding if_left
 left-computed zero = refl
-left-computed (suc r) = ap bool_byte (lt-ltb 0 (suc r) (omega arith))
+left-computed (suc r) = omega arith
 
-pub rounded-fits : (c b k : ℕ) → c ≤ word_width → Fits w32 (c / b + bool_byte (ltb k (c % b)))
-rounded-fits c b k l = by (ltb k (c % b))
-  where
-    by : (left : Bool) → Fits w32 (c / b + bool_byte left)
-    by true = record { fits = omega (arith, div-le_self c b) }
-    by false = record { fits = omega (arith, div-le_self c b) }
-
-pub rounded-least : (c b : ℕ) → 1 ≤ c → 1 ≤ c / b + bool_byte (ltb 0 (c % b))
+pub rounded-least : (c b : ℕ) → 1 ≤ c → 1 ≤ c / b + min 1 (c % b)
 rounded-least c b hc = by (c / b) (c % b) (div-add-mod' c b)
   where
-    by : (q r : ℕ) → q * b + r ≡ c → 1 ≤ q + bool_byte (ltb 0 r)
+    by : (q r : ℕ) → q * b + r ≡ c → 1 ≤ q + min 1 r
     by (suc q) r e = omega arith
-    by zero (suc r) e = omega (arith, ap bool_byte (lt-ltb 0 (suc r) (omega arith)))
-    by zero zero e = omega arith
+    by zero r e = omega arith
 
-pub height-computed : (b n : ℕ) → 2 ≤ n
-    → let c = word_width - count_leading_zeros word_width (n - 1) in c / b + bool_byte (ltb 0 (c % b)) - 1 ≡ height b n
+pub height-computed : (b n : ℕ) → 2 ≤ n → let c = word_width - count_leading_zeros word_width (n - 1) in c / b + min 1 (c % b) - 1 ≡ height b n
 unfolding height levels bits_to_write
 height-computed b zero hn = absurd (lt_irrefl 0 (omega arith))
 height-computed b (suc zero) hn = absurd (lt_irrefl 0 (omega arith))

@@ -16,8 +16,8 @@ pub fn height(bits: u32, length: u32) -> u32
 {
     if length > 1 {
         let u = length - 1;
-        let c = limits::WORD_WIDTH - u32::leading_zeros(u);
-        c / bits + (c % bits > 0) as u32 - 1
+        let c = limits::WORD_WIDTH - u.leading_zeros();
+        c.div_ceil(bits) - 1
     } else {
         0
     }
@@ -32,6 +32,7 @@ pub fn root_max_capacity(bits: u32, length: u32) -> u32
     1 << (bits * (height(bits, length) + 1))
 }
 
+#[tactic(auto, unfolding(meaning::specs::Shape::is_root_full))]
 pub fn is_root_full(bits: u32, length: u32) -> bool
     requires { Legal bits length }
     ensures { result ≡ is_root_full bits length }

@@ -12,6 +12,7 @@ pub fn degree(bits: u32) -> u32
     1 << bits
 }
 
+#[tactic(auto, unfolding(meaning::specs::Shape::mask))]
 pub fn mask(bits: u32) -> u32
     requires { LegalBits bits }
     ensures { result ≡ mask bits }
