@@ -1,12 +1,13 @@
 -- The bytes of a number, of a frame and of an answer, at their places.
 use mathlib.Core.Path.{◌≡◌, refl, ap, ◌∙◌}
 use mathlib.Core.List.{List, [], ◌∷◌, append_assoc}
-use Prim.Native.Nat.{ℕ, zero, suc, ◌+◌, ◌*◌, ◌/◌, ◌%◌, ◌≤◌, ◌<◌}
+use Prim.Native.Nat.{ℕ, zero, suc, ◌+◌, ◌/◌, ◌%◌, ◌≤◌, ◌<◌}
 use native.Mathlib.Nat.{lt_irrefl, add-zero}
 use native.Mathlib.Numerals.{add-one}
 use native.Mathlib.Omega.{arith}
 use lib.ListN.{length, take, drop, get_or, set, length-take, length-drop, length-append}
 use lib.Seq.{drop-cons, drop-drop, take-take, get_or-take, get_or-drop, set_comm, sets, sets-eq}
+use Rattle.std.specs.Int.{w32, from_be_bytes, to_be_bytes}
 use Rattle.meaning.specs.Limits.{frame_size, answer_size}
 use Rattle.meaning.specs.Frames as meaning
 use Rattle.meaning.specs.Frames.{from_bytes, to_bytes, decode, encode}
@@ -24,13 +25,12 @@ put-length room at bytes l = simp (length-append, length-take, length-drop) (ome
 
 -- ---- a number and a frame
 
-pub number_is : (bs : List ℕ) (at a b c d : ℕ) → at + 4 ≤ length bs
-    → a ≡ get_or bs at 0 → b ≡ get_or bs (at + 1) 0 → c ≡ get_or bs (at + 2) 0 → d ≡ get_or bs (at + 3) 0
-    → a * 16777216 + b * 65536 + c * 256 + d ≡ from_bytes (take 4 (drop at bs)) 0
+pub number_is : (bs : List ℕ) (at : ℕ) → at + 4 ≤ length bs
+    → from_be_bytes w32 (get_or bs at 0 ∷ get_or bs (at + 1) 0 ∷ get_or bs (at + 2) 0 ∷ get_or bs (at + 3) 0 ∷ []) ≡ from_bytes (take 4 (drop at bs)) 0
 unfolding from_bytes
-number_is bs at a b c d l p q r s =
-    rw (drop-cons bs at 0 (omega arith), drop-cons bs (suc at) 0 (omega arith), drop-cons bs (suc (suc at)) 0 (omega arith), drop-cons bs (suc (suc (suc at))) 0 (omega arith))
-    (omega (arith, p, rw (add-one at) at q, rw two at r, rw three at s))
+number_is bs at l =
+    rw (drop-cons bs at 0 (omega arith), drop-cons bs (suc at) 0 (omega arith), drop-cons bs (suc (suc at)) 0 (omega arith), drop-cons bs (suc (suc (suc at))) 0 (omega arith), add-one at, two, three)
+    (omega arith)
   where
     two : at + 2 ≡ suc (suc at)
     two = omega arith
@@ -69,12 +69,12 @@ set-before-sets (x ∷ bytes) room i j b l =
     set-before-sets bytes (set room j x) i (suc j) b (omega arith)
     ∙ ap (λ (r : List ℕ). sets r (suc j) bytes) (set_comm room j i x b (λ e. lt_irrefl j (omega arith)))
 
-pub answer-is : (room : List ℕ) (at : ℕ) (a : meaning.Answer) → at + answer_size ≤ length room
-    → set (set (set (set (set (set room (at + 2) (a.value / 16777216 % 256)) (at + 3) (a.value / 65536 % 256)) (at + 4) (a.value / 256 % 256)) (at + 5) (a.value % 256)) at a.number) (at + 1) a.fresh
+pub answer-is : (room bytes : List ℕ) (at : ℕ) (a : meaning.Answer) → bytes ≡ to_be_bytes w32 a.value → at + answer_size ≤ length room
+    → set (set (set (set (set (set room (at + 2) (get_or bytes 0 0)) (at + 3) (get_or bytes 1 0)) (at + 4) (get_or bytes 2 0)) (at + 5) (get_or bytes 3 0)) at a.number) (at + 1) a.fresh
     ≡ put room at (encode a)
 unfolding encode to_bytes
-answer-is room at a l =
-    rw (add-one at, two, three, four, five, one)
+answer-is room bytes at a e l =
+    rw (e, add-one at, two, three, four, five, one)
     (ap (λ (r : List ℕ). set r (suc at) a.fresh) (set-before-sets (to_bytes 4 a.value) room at (suc (suc at)) a.number (omega arith))
     ∙ set-before-sets (to_bytes 4 a.value) (set room at a.number) (suc at) (suc (suc at)) a.fresh (omega arith)
     ∙ put-by-sets (encode a) room at l)

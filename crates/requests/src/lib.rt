@@ -9,7 +9,7 @@ ghost use Rattle.requests.specs.Requests.{frame_of, answer_of, frame_place, answ
 use limits::{ANSWER_SIZE, FRAME_SIZE};
 
 // A request of one call. What its fields name is for the operation to say.
-#[derive(Clone, Copy)]
+#[derive(Clone, Copy, PartialEq, Eq, Debug)]
 pub struct Frame {
     pub party: u8,
     pub operation: u8,
@@ -19,17 +19,11 @@ pub struct Frame {
     pub value: u32,
 }
 
-#[derive(Clone, Copy)]
+#[derive(Clone, Copy, PartialEq, Eq, Debug)]
 pub struct Answer {
     pub number: u8,
     pub fresh: u8,
     pub value: u32,
-}
-
-fn wide(byte: u8) -> u32
-    ensures { (result ≡ byte) × (result < 256) }
-{
-    byte as u32
 }
 
 // The number whose 4 bytes stand at a place.
@@ -37,14 +31,15 @@ pub fn number_at(requests: &[u8], at: usize) -> u32
     requires { at + 4 ≤ length requests.now }
     ensures { result ≡ from_bytes (take 4 (drop at requests.now)) 0 }
 {
-    let a = wide(requests[at]);
-    let b = wide(requests[at + 1]);
-    let c = wide(requests[at + 2]);
-    let d = wide(requests[at + 3]);
-    a * 16777216 + b * 65536 + c * 256 + d
+    u32::from_be_bytes([
+        requests[at],
+        requests[at + 1],
+        requests[at + 2],
+        requests[at + 3],
+    ])
 }
 
-// Where the kth frame begins among the requests.
+// Where the kth frame begins among the requests; not one function with `answer_place`, of a const parameter, since each caller would name the size.
 pub fn frame_place(k: usize) -> usize
     requires { frame_place k < 2 ^ 64 }
     ensures { result ≡ frame_place k }
@@ -73,8 +68,8 @@ pub fn frame_at(requests: &[u8], k: usize) -> Frame
         operation: requests[at + 1],
         slot: requests[at + 2],
         destination: requests[at + 3],
-        index: index,
-        value: value,
+        index,
+        value,
     }
 }
 
@@ -84,12 +79,12 @@ pub fn put_answer(room: &mut [u8], k: usize, a: Answer)
     ensures { room.new ≡ put room.old (answer_place k) (encode (answer_of a)) }
 {
     let at = answer_place(k);
-    let value = a.value;
-    // With nothing stored before them, the 4 bytes become one store.
-    room[at + 2] = ((value >> 24) % 256) as u8;
-    room[at + 3] = ((value >> 16) % 256) as u8;
-    room[at + 4] = ((value >> 8) % 256) as u8;
-    room[at + 5] = (value % 256) as u8;
+    let [first, second, third, last] = a.value.to_be_bytes();
+    // Stored one by one and before the others, the 4 bytes become one store; by `copy_from_slice` all 6 go over the stack.
+    room[at + 2] = first;
+    room[at + 3] = second;
+    room[at + 4] = third;
+    room[at + 5] = last;
     room[at] = a.number;
     room[at + 1] = a.fresh;
 }
