@@ -6,7 +6,7 @@ use native.Mathlib.Nat.{lt_irrefl, mul-suc, le_antisymm}
 use native.Mathlib.Numerals.{add-one}
 use native.Mathlib.Omega.{arith}
 use lib.ListN.{length, get_or, set, length-append, get_or-append}
-use lib.Seq.{paste, paste-suc, paste-zero, length-paste, get_or_at}
+use lib.Seq.{paste, paste-suc, get_or_at}
 use Rattle.meaning.specs.Limits.{frame_size, answer_size}
 use Rattle.meaning.specs.Program.{line_feed, digit_value, digit_byte, from_hex, to_hex}
 use Rattle.hexadecimal.specs.Text.{line_size, printed_size, printed_answer}
@@ -34,15 +34,6 @@ read_at (suc i) (a ∷ b ∷ text) l =
     rw (e, twice-suc i) (read_at i text (omega (arith, twice-suc i)))
 
 module _ (text requests₀ : List ℕ) (at : ℕ) where
-  pub put-start : requests₀ ≡ paste requests₀ at (from_hex text) 0
-  put-start = paste-zero requests₀ at (from_hex text)
-
-  pub put_same : (requests : List ℕ) (i : ℕ) → length text ≡ line_size → at + frame_size ≤ length requests₀ → i ≤ frame_size
-      → requests ≡ paste requests₀ at (from_hex text) i → length requests ≡ length requests₀
-  put_same requests i e r l p =
-      let n : length (from_hex text) ≡ frame_size = read_length frame_size text e in
-      ap length p ∙ length-paste requests₀ at (from_hex text) i (omega arith) (omega arith)
-
   pub put_next : (requests : List ℕ) (i high low : ℕ) → length text ≡ line_size → at + frame_size ≤ length requests₀ → i < frame_size
       → requests ≡ paste requests₀ at (from_hex text) i → high ≡ digit_value (get_or text (2 * i) 0) → low ≡ digit_value (get_or text (2 * i + 1) 0)
       → set requests (at + i) (high * 16 + low) ≡ paste requests₀ at (from_hex text) (i + 1)
@@ -50,9 +41,6 @@ module _ (text requests₀ : List ℕ) (at : ℕ) where
       let v : high * 16 + low ≡ get_or (from_hex text) i 0 = ap₂ (λ (x y : ℕ). x * 16 + y) q s ∙ sym (read_at i text (omega arith)) in
       let n : length (from_hex text) ≡ frame_size = read_length frame_size text e in
       rw (p, v, add-one) (paste-suc requests₀ at (from_hex text) i 0 (omega arith) (omega arith))
-
-  pub put-ends : (requests : List ℕ) (i : ℕ) → frame_size ≤ i → i ≤ frame_size → requests ≡ paste requests₀ at (from_hex text) i → requests ≡ paste requests₀ at (from_hex text) frame_size
-  put-ends requests i l g p = let k : i ≡ frame_size = le_antisymm g l in rw k at p
 
 -- ---- bytes to digits
 
@@ -88,12 +76,6 @@ module _ (answer out₀ : List ℕ) (at : ℕ) (e : length answer ≡ answer_siz
   row-end : get_or row (2 * answer_size) 0 ≡ line_feed
   unfolding printed_answer
   row-end = get_or_at (to_hex answer) line_feed [] 0 (2 * answer_size) (omega (arith, shown-length answer))
-
-  pub show-start : out₀ ≡ paste out₀ at row (2 * 0)
-  show-start = paste-zero out₀ at row
-
-  pub show-same : (out : List ℕ) (i : ℕ) → i ≤ answer_size → out ≡ paste out₀ at row (2 * i) → length out ≡ length out₀
-  show-same out i l p = ap length p ∙ length-paste out₀ at row (2 * i) (omega arith) (omega (arith, row-length answer e))
 
   pub show-next : (out : List ℕ) (i high low : ℕ) → i < answer_size → out ≡ paste out₀ at row (2 * i)
       → high ≡ digit_byte (get_or answer i 0 / 16) → low ≡ digit_byte (get_or answer i 0 % 16)

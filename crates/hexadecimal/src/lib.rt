@@ -17,42 +17,44 @@ pub const PRINTED_SIZE: usize = 2 * ANSWER_SIZE + 1;
 
 pub const LINE_FEED: u8 = b'\n';
 
+#[tactic(auto, using(std::proofs::lemmas::Bool::Decides::nat_tests), unfolding(meaning::specs::Program::is_digit))]
 fn is_digit(b: u8) -> bool
     ensures { result ≡ is_digit b }
 {
-    ((b'0' <= b) & (b <= b'9')) | ((b'A' <= b) & (b <= b'F'))
+    // Joined by `|` and not in one `matches!`, whose branches would keep the bytes of a line from being compared side by side.
+    matches!(b, b'0'..=b'9') | matches!(b, b'A'..=b'F')
 }
 
+#[tactic(auto, using(std::proofs::lemmas::Bool::Decides::nat_tests), unfolding(meaning::specs::Program::is_digit, meaning::specs::Program::digit_value))]
 fn digit_value(b: u8) -> u8
     requires { is_digit b ≡ true }
     ensures { (result ≡ digit_value b) × (result < 16) }
 {
-    if b <= b'9' {
-        return b - 48;
+    match b {
+        ..=b'9' => b - b'0',
+        _ => b - b'A' + 10,
     }
-    b - 55
 }
 
+#[tactic(auto, using(std::proofs::lemmas::Bool::Decides::nat_tests), unfolding(meaning::specs::Program::digit_byte))]
 fn digit_byte(v: u8) -> u8
     requires { v < 16 }
     ensures { result ≡ digit_byte v }
 {
-    if v < 10 {
-        return v + 48;
+    match v {
+        ..=9 => v + b'0',
+        _ => v - 10 + b'A',
     }
-    v + 55
 }
 
 // Whether every byte is a digit.
 pub fn all_digits(text: &[u8]) -> bool
     ensures { result ≡ all_digits text.now }
 {
+    // Every byte is looked at, as `all` would not: without an exit the bytes are compared side by side.
     let mut all = true;
-    let mut i = 0;
-    while i < text.len() {
-        let digit = is_digit(text[i]);
-        all = all & digit;
-        i += 1;
+    for b in text {
+        all &= is_digit(*b);
     }
     all
 }
@@ -62,12 +64,10 @@ pub fn put_frame(text: &[u8], requests: &mut [u8], at: usize)
     requires { (length text.now ≡ line_size) × (all_digits text.now ≡ true) × (at + frame_size ≤ length requests.old) }
     ensures { requests.new ≡ paste requests.old at (from_hex text.now) frame_size }
 {
-    let mut i = 0;
-    while i < FRAME_SIZE {
+    for i in 0..FRAME_SIZE {
         let high = digit_value(text[2 * i]);
         let low = digit_value(text[2 * i + 1]);
         requests[at + i] = high * 16 + low;
-        i += 1;
     }
 }
 
@@ -76,12 +76,9 @@ pub fn print_answer(answer: &[u8], out: &mut [u8], at: usize)
     requires { (length answer.now ≡ answer_size) × (at + printed_size ≤ length out.old) }
     ensures { out.new ≡ paste out.old at (printed_answer answer.now) printed_size }
 {
-    let mut i = 0;
-    while i < ANSWER_SIZE {
-        let b = answer[i];
+    for (i, &b) in answer.iter().enumerate() {
         out[at + 2 * i] = digit_byte(b / 16);
         out[at + 2 * i + 1] = digit_byte(b % 16);
-        i += 1;
     }
     out[at + 2 * ANSWER_SIZE] = LINE_FEED;
 }
