@@ -21,7 +21,7 @@ use Rattle.serving.specs.Lending.{frames_in}
 use Rattle.serving.proofs.Serving.{all-serve}
 use Rattle.runs.specs.Runs.{Progress, progress, run_from, CanRun}
 use Rattle.runs.proofs.All.{run-all}
-use Rattle.lines.specs.Lines.{frame_mark, whole_lines, frames_marked}
+use Rattle.lines.specs.Lines.{too_long, frame_mark, whole_lines, frames_marked}
 use Rattle.lines.specs.Reading.{Reads, CanRead, Bounded, ReadsPiece}
 use Rattle.lines.specs.Printing.{printed, CanPrint, Prints}
 use Rattle.lines.proofs.Marks.{printed-front}
@@ -48,20 +48,19 @@ answers-length r (suc k) bs =
 
 -- ---- what reading, running and printing ask
 
-module _ (before : Run) (piece : List ℕ) (len : ℕ) (out : List ℕ) (can : CanTalk before piece len out) where
-  pub can-read : (marks requests : List ℕ) → length marks ≡ piece_size → length requests ≡ frame_size * piece_size → CanRead piece len marks requests
-  can-read marks requests m q = record { kept = can.kept; mark_room = omega (arith, can.short); request_room = omega (arith, can.short) }
+module _ (before : Run) (piece out : List ℕ) (can : CanTalk before piece out) where
+  pub can-read : (marks requests : List ℕ) → length marks ≡ piece_size → length requests ≡ frame_size * piece_size → CanRead piece marks requests
+  can-read marks requests m q = record { mark_room = omega (arith, can.short); request_room = omega (arith, can.short) }
 
   pub can-run : (requests answers : List ℕ) (count : ℕ) → length requests ≡ frame_size * piece_size → length answers ≡ answer_size * piece_size → count ≤ piece_size → CanRun before requests answers count
   can-run requests answers count q a l = record { runs = can.runs; asked = omega arith; fits = omega arith }
 
-  pub can-print : (len' lines frames : ℕ) → Bounded (length piece) len' lines frames → (marks answers : List ℕ) → length marks ≡ piece_size → length answers ≡ answer_size * piece_size
-      → CanPrint marks lines answers out
-  can-print len' lines frames most marks answers m a =
+  pub can-print : (lines frames : ℕ) → Bounded (length piece) lines frames → (marks answers : List ℕ) → length answers ≡ answer_size * piece_size
+      → CanPrint (take lines marks) answers out
+  can-print lines frames most marks answers a =
       record {
-        marked = omega (arith, can.short, most.many_lines);
         answered = omega (arith, can.short, most.many_lines, counted-most (take lines marks), length-take lines marks);
-        room = omega (arith, can.room, most.many_lines);
+        room = omega (arith, can.room, most.many_lines, length-take lines marks);
       }
 
 -- ---- what they do
@@ -86,7 +85,7 @@ module _ (before after : Run) (marks requests answers answers' : List ℕ) (line
   pub after-runs : Runs before → Runs after
   after-runs k = rw after-served (all-serve before (frames_in frames requests) k).runs
 
-  module _ (line piece bytes : List ℕ) (len written : ℕ) (out : List ℕ) (r : Reads line piece bytes len marks requests lines frames) (p : Prints marks lines answers' written out) where
+  module _ (line piece bytes : List ℕ) (len written : ℕ) (out : List ℕ) (r : Reads line piece bytes len marks requests lines frames) (p : Prints (take lines marks) answers' written out) where
     abbrev line_marks : List ℕ
     line_marks = take lines marks
 
@@ -109,14 +108,14 @@ module _ (before after : Run) (marks requests answers answers' : List ℕ) (line
     answered : Answered before line piece after bytes len written out
     answered = record { keeps = r.keeps; state = same-state; text = same_text }
 
-  pub talks : (piece bytes : List ℕ) (len : ℕ) (bytes' : List ℕ) (len' written : ℕ) (out out' : List ℕ) → CanTalk before piece len out
-      → ReadsPiece piece bytes len bytes' len' marks requests lines frames → Prints marks lines answers' written out'
+  pub talks : (piece bytes : List ℕ) (len : ℕ) (bytes' : List ℕ) (len' written : ℕ) (out out' : List ℕ) → len' ≤ too_long → CanTalk before piece out
+      → ReadsPiece piece bytes len bytes' len' marks requests lines frames → Prints (take lines marks) answers' written out'
       → node_count after.store ≡ node_count before.store → length out' ≡ length out → Talks before piece bytes len after bytes' len' written out'
-  talks piece bytes len bytes' len' written out out' can reads p n z =
+  talks piece bytes len bytes' len' written out out' kept can reads p n z =
       record {
         runs = after-runs can.runs;
         size = n;
-        kept = reads.bounded.kept;
-        inside = omega (arith, p.size, can.room, reads.bounded.many_lines);
+        kept = kept;
+        inside = omega (arith, p.size, can.room, reads.bounded.many_lines, length-take lines marks);
         talked = λ line k. answered line piece bytes' len' written out' (reads.reads line k) p;
       }

@@ -12,9 +12,8 @@ use Rattle.conversation.specs.Conversing.{talk_on}
 abbrev pub piece_size : ℕ
 piece_size = 4096
 
-pub record CanTalk (before : Run) (piece : List ℕ) (len : ℕ) (out : List ℕ) : Type 0 where
+pub record CanTalk (before : Run) (piece out : List ℕ) : Type 0 where
   pub runs : Runs before
-  pub kept : len ≤ too_long
   pub short : length piece ≤ piece_size
   pub room : printed_size * length piece ≤ length out
 

@@ -7,8 +7,8 @@ ghost use Rattle.walk.specs.Walk.{walks_of};
 ghost use Rattle.runs.specs.Runs.{run_of};
 ghost use Rattle.conversation.specs.Talks.{CanTalk, Talks};
 
-use hexadecimal::LINE_SIZE;
 use limits::{ANSWER_SIZE, FRAME_SIZE, VERSIONS};
+use lines::Begun;
 use records::Version;
 use walk::Walks;
 
@@ -19,12 +19,11 @@ const REQUEST_ROOM: usize = FRAME_SIZE * PIECE;
 
 const ANSWER_ROOM: usize = ANSWER_SIZE * PIECE;
 
-// The version records and the number of free nodes afterwards, what is kept of a line begun, and how many bytes were written.
+// The version records and the number of free nodes afterwards, and how many bytes were written.
 #[derive(Drop)]
 pub struct Talked {
     pub versions: [Version; VERSIONS],
     pub free: usize,
-    pub len: usize,
     pub written: usize,
 }
 
@@ -39,24 +38,23 @@ pub fn talk(
     free: usize,
     versions: [Version; VERSIONS],
     piece: &[u8],
-    begun: &mut [u8; LINE_SIZE],
-    len: usize,
+    begun: &mut Begun,
     out: &mut [u8],
 ) -> Talked
     requires { CanTalk (run_of (store_of kinds.old used.old counts.old cells.old order.old free) (records_of versions) (walks_of walks.old))
-        piece.now len out.old }
+        piece.now out.old }
     ensures { Talks
         (run_of (store_of kinds.old used.old counts.old cells.old order.old free)
         (records_of versions) (walks_of walks.old))
-        piece.now begun.old len
+        piece.now begun.old.digits begun.old.len
         (run_of (store_of kinds.new used.new counts.new cells.new order.new result.free)
         (records_of result.versions) (walks_of walks.new))
-        begun.new result.len result.written out.new }
+        begun.new.digits begun.new.len result.written out.new }
 {
     let mut marks = [0u8; PIECE];
     let mut requests = [0u8; REQUEST_ROOM];
     let mut answers = [0u8; ANSWER_ROOM];
-    let read = lines::read_lines(piece, begun, len, &mut marks, &mut requests);
+    let read = lines::read_lines(piece, begun, &mut marks, &mut requests);
     let ran = runs::run(
         kinds,
         used,
@@ -70,12 +68,10 @@ pub fn talk(
         &mut answers,
         read.frames,
     );
-    let written = lines::print_answers(&marks, read.lines, &answers, out);
-    let table = ran.versions;
+    let written = lines::print_answers(&marks[..read.lines], &answers, out);
     Talked {
-        versions: table,
+        versions: ran.versions,
         free: ran.free,
-        len: read.len,
-        written: written,
+        written,
     }
 }

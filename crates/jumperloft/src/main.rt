@@ -10,10 +10,11 @@ ghost use Rattle.runs.specs.Runs.{run_of};
 ghost use Rattle.serving.specs.States.{Runs};
 
 use conversation::PIECE;
-use hexadecimal::{LINE_SIZE, PRINTED_SIZE};
+use hexadecimal::PRINTED_SIZE;
 use limits::{NODE_CELLS, PROGRAM_NODES, VERSIONS};
+use lines::Begun;
 use records::Version;
-use std::io::{Read, Write};
+use std::io::{self, Read, Write};
 use walk::Walks;
 
 // The cells of the program's nodes.
@@ -29,18 +30,10 @@ const LAST_ANSWER: [u8; PRINTED_SIZE] = *b"0E0000000000\n";
 fn read_piece(rt: &HostRuntime, piece: &mut [u8; PIECE]) -> usize
     ensures { result ≤ PIECE }
 {
-    match rt.stdin().read(piece) {
-        Ok(n) => n,
-        Err(_) => 0,
-    }
+    rt.stdin().read(piece).unwrap_or(0)
 }
 
-// Whether all of the text was written.
-fn write_text(rt: &HostRuntime, text: &[u8]) -> bool {
-    rt.stdout().write_all(text).is_ok()
-}
-
-// Answers the lines of each read as they come to an end. A proved loop has to end, so this one counts down from a number of reads that no run uses up.
+// Answers the lines of each read as they come to an end. A proved loop has to end, so this one ends after a number of reads that no run uses up.
 fn answer_all(
     rt: &HostRuntime,
     kinds: &mut [u8; PROGRAM_NODES],
@@ -50,22 +43,20 @@ fn answer_all(
     order: &mut [u32; PROGRAM_NODES],
     walks: &mut Walks,
     versions: [Version; VERSIONS],
-)
+) -> io::Result<()>
     requires { Runs (run_of (store_of kinds.old used.old counts.old cells.old order.old program_nodes) (records_of versions) (walks_of walks.old)) }
 {
-    let mut begun = [0u8; LINE_SIZE];
+    let mut begun = Begun::new();
     let mut piece = [0u8; PIECE];
     let mut out = [0u8; OUT];
     let mut table = versions;
     let mut free = PROGRAM_NODES;
-    let mut len = 0;
-    let mut turns = u64::MAX;
-    while turns > 0 {
+    for _ in 0..u64::MAX {
         let n = read_piece(rt, &mut piece);
         if n == 0 {
             break;
         }
-        let t = conversation::talk(
+        let talked = conversation::talk(
             kinds,
             used,
             counts,
@@ -76,23 +67,16 @@ fn answer_all(
             table,
             &piece[..n],
             &mut begun,
-            len,
             &mut out,
         );
-        let after = t.versions;
-        table = after;
-        free = t.free;
-        len = t.len;
-        let written = t.written;
-        if !write_text(rt, &out[..written]) {
-            return;
-        }
-        turns -= 1;
+        table = talked.versions;
+        free = talked.free;
+        rt.stdout().write_all(&out[..talked.written])?;
     }
-    if len > 0 {
-        let text = LAST_ANSWER;
-        write_text(rt, &text);
+    if begun.len > 0 {
+        rt.stdout().write_all(&LAST_ANSWER)?;
     }
+    Ok(())
 }
 
 fn main(rt: HostRuntime) {
@@ -114,7 +98,8 @@ fn main(rt: HostRuntime) {
         &mut walks.levels.nodes,
         &mut walks.levels.indices,
     );
-    answer_all(
+    // Where the answers can't be written, nobody is left to tell.
+    let _ = answer_all(
         &rt,
         &mut kinds,
         &mut used,

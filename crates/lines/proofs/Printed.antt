@@ -4,7 +4,6 @@ use mathlib.Core.Logic.{◌≢◌}
 use mathlib.Core.Bool.{Bool, true, false, cond}
 use mathlib.Core.List.{List, [], ◌∷◌, ◌++◌, append-nil}
 use Prim.Native.Nat.{ℕ, ◌+◌, ◌-◌, ◌*◌, ◌≤◌, ◌<◌}
-use native.Mathlib.Nat.{le_antisymm}
 use native.Mathlib.Numerals.{add-one}
 use native.Mathlib.Omega.{arith}
 use lib.Dec.{eqb}
@@ -17,7 +16,7 @@ use Rattle.meaning.specs.Serve.{refused}
 use Rattle.requests.specs.Requests.{answer_place}
 use Rattle.hexadecimal.specs.Text.{printed_answer, printed_size}
 use Rattle.lines.specs.Lines.{frame_mark, frames_marked}
-use Rattle.lines.specs.Printing.{printed_line, printed, CanPrintLine, PrintsLine, CanPrint, Prints}
+use Rattle.lines.specs.Printing.{printed_line, printed, CanPrintLine, PrintsLine, CanPrint}
 use Rattle.lines.proofs.Marks.{counted-append, printed-append}
 use Rattle.hexadecimal.proofs.Pairs.{row-length}
 
@@ -70,6 +69,12 @@ counted-most marks i n l =
     let e : n ≡ i + (n - i) = omega arith in
     rw (e, take-add i (n - i) marks, counted-append) (omega arith)
 
+counted-all : (marks : List ℕ) (i : ℕ) → i ≤ length marks → frames_marked (take i marks) ≤ frames_marked marks
+counted-all marks i l =
+    let e : take (length marks) marks ≡ marks = take_all (length marks) marks (omega arith) in
+    let h : frames_marked (take i marks) ≤ frames_marked (take (length marks) marks) = counted-most marks i (length marks) l in
+    rw e at h
+
 next_marks : (marks : List ℕ) (i : ℕ) → i < length marks → take (i + 1) marks ≡ take i marks ++ (get_or marks i 0 ∷ [])
 next_marks marks i l = rw (add-one, take-suc marks i 0 l)
 
@@ -77,17 +82,17 @@ printed-one : (mark : ℕ) (bs : List ℕ) → printed (mark ∷ []) bs ≡ prin
 unfolding printed
 printed-one mark bs = append-nil (printed_line mark bs)
 
-module _ (marks : List ℕ) (lines : ℕ) (answers out₀ : List ℕ) (can : CanPrint marks lines answers out₀) (out : List ℕ) (s : length out ≡ length out₀) (frames i : ℕ) (l : i < lines) (n : frames ≡ frames_marked (take i marks)) where
+module _ (marks answers out₀ : List ℕ) (can : CanPrint marks answers out₀) (out : List ℕ) (s : length out ≡ length out₀) (frames i : ℕ) (l : i < length marks) (n : frames ≡ frames_marked (take i marks)) where
   abbrev mark : ℕ
   mark = get_or marks i 0
 
   counted_next : frames + frames_marked (mark ∷ []) ≡ frames_marked (take (i + 1) marks)
-  counted_next = rw (next_marks marks i (omega (arith, can.marked)), counted-append, n)
+  counted_next = rw (next_marks marks i l, counted-append, n)
 
   pub line-can : CanPrintLine mark answers frames out (printed_size * i)
   line-can =
       record {
-        answered = omega (arith, can.answered, counted_next, counted-most marks (i + 1) lines (omega arith));
+        answered = omega (arith, can.answered, counted_next, counted-all marks (i + 1) (omega arith));
         room = omega (arith, can.room);
       }
 
@@ -101,11 +106,8 @@ module _ (marks : List ℕ) (lines : ℕ) (answers out₀ : List ℕ) (can : Can
       let e : printed_size * (i + 1) ≡ printed_size * i + printed_size = omega arith in
       let w : take (printed_size * i + printed_size) out' ≡ take at out ++ row = rw (h.text, take-paste out at row printed_size (omega (arith, line-can.room)) (omega arith), a) in
       let q : printed (take (i + 1) marks) answers ≡ printed (take i marks) answers ++ row =
-      rw (next_marks marks i (omega (arith, can.marked)), printed-append, printed-one, n) in
+      rw (next_marks marks i l, printed-append, printed-one, n) in
       (ap length h.text ∙ length-paste out at row printed_size (omega (arith, line-can.room)) (omega arith) ∙ s, h.counted ∙ counted_next, rw (e, w, p, q))
-
-pub all-printed : (marks : List ℕ) (lines : ℕ) (answers out : List ℕ) (i : ℕ) → i ≤ lines → lines ≤ i → take (printed_size * i) out ≡ printed (take i marks) answers → Prints marks lines answers (printed_size * lines) out
-all-printed marks lines answers out i l g p = let e : i ≡ lines = le_antisymm l g in record { size = refl; text = rw e at p }
 
 -- ---- before the first line
 

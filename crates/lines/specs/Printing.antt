@@ -29,11 +29,10 @@ pub record PrintsLine (mark : ℕ) (answers : List ℕ) (frames : ℕ) (out : Li
   pub text : out' ≡ paste out at (printed_line mark (drop (answer_place frames) answers)) printed_size
 
 -- the answers to all lines
-pub record CanPrint (marks : List ℕ) (lines : ℕ) (answers out : List ℕ) : Type 0 where
-  pub marked : lines ≤ length marks
-  pub answered : answer_place (frames_marked (take lines marks)) ≤ length answers
-  pub room : printed_size * lines ≤ length out
+pub record CanPrint (marks answers out : List ℕ) : Type 0 where
+  pub answered : answer_place (frames_marked marks) ≤ length answers
+  pub room : printed_size * length marks ≤ length out
 
-pub record Prints (marks : List ℕ) (lines : ℕ) (answers : List ℕ) (written : ℕ) (out : List ℕ) : Type 0 where
-  pub size : written ≡ printed_size * lines
-  pub text : take written out ≡ printed (take lines marks) answers
+pub record Prints (marks answers : List ℕ) (written : ℕ) (out : List ℕ) : Type 0 where
+  pub size : written ≡ printed_size * length marks
+  pub text : take written out ≡ printed marks answers

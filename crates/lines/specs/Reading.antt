@@ -6,7 +6,7 @@ use Rattle.meaning.specs.Counting.{bit}
 use Rattle.meaning.specs.Program.{line_feed, all_digits, from_hex}
 use Rattle.requests.specs.Requests.{frame_place}
 use Rattle.hexadecimal.specs.Text.{line_size}
-use Rattle.lines.specs.Lines.{too_long, whole_lines, left_over, Keeps, marked_lines, frames_marked}
+use Rattle.lines.specs.Lines.{whole_lines, left_over, Keeps, marked_lines, frames_marked}
 
 -- ---- a line that ends
 
@@ -20,6 +20,8 @@ pub record EndsLine (is_frame : Bool) (digits marks requests : List ℕ) (lines 
   pub marked : marks' ≡ set marks lines (bit is_frame)
   pub read : requests' ≡ cond is_frame (paste requests (frame_place frames) (from_hex digits) frame_size) requests
   pub counted : frames' ≡ frames + bit is_frame
+  pub marks_kept : length marks' ≡ length marks
+  pub requests_kept : length requests' ≡ length requests
 
 -- a frame's digits and a line feed stand there
 pub record FrameAt (piece : List ℕ) (at : ℕ) : Type 0 where
@@ -35,31 +37,30 @@ pub record Reads (line done bytes : List ℕ) (len : ℕ) (marks requests : List
   pub marked : marked_lines (take lines marks) requests ≡ whole_lines line done
   pub counted : frames ≡ frames_marked (take lines marks)
 
-pub record CanRead (piece : List ℕ) (len : ℕ) (marks requests : List ℕ) : Type 0 where
-  pub kept : len ≤ too_long
+pub record CanRead (piece : List ℕ) (marks requests : List ℕ) : Type 0 where
   pub mark_room : length piece ≤ length marks
   pub request_room : frame_place (length piece) ≤ length requests
 
 -- no more lines than bytes read, and no more frames than lines
-pub record Bounded (at len lines frames : ℕ) : Type 0 where
-  pub kept : len ≤ too_long
+pub record Bounded (at lines frames : ℕ) : Type 0 where
   pub many_lines : lines ≤ at
   pub many_frames : frames ≤ lines
 
 -- there is more of it to read
-pub record CanReadOn (piece : List ℕ) (at len : ℕ) (marks requests : List ℕ) (lines frames : ℕ) : Type 0 where
-  pub can : CanRead piece len marks requests
-  pub bounded : Bounded at len lines frames
+pub record CanReadOn (piece : List ℕ) (at : ℕ) (marks requests : List ℕ) (lines frames : ℕ) : Type 0 where
+  pub can : CanRead piece marks requests
+  pub bounded : Bounded at lines frames
   pub more : at < length piece
 
 -- further in a piece, whatever was kept before
 pub record ReadsOn (piece bytes : List ℕ) (at len : ℕ) (marks requests : List ℕ) (lines frames : ℕ) (bytes' : List ℕ) (at' len' : ℕ) (marks' requests' : List ℕ) (lines' frames' : ℕ) : Type 0 where
   pub further : at < at'
   pub inside : at' ≤ length piece
-  pub bounded : Bounded at' len' lines' frames'
+  pub can : CanRead piece marks' requests'
+  pub bounded : Bounded at' lines' frames'
   pub reads : (line : List ℕ) → Reads line (take at piece) bytes len marks requests lines frames → Reads line (take at' piece) bytes' len' marks' requests' lines' frames'
 
 -- to its end
 pub record ReadsPiece (piece bytes : List ℕ) (len : ℕ) (bytes' : List ℕ) (len' : ℕ) (marks' requests' : List ℕ) (lines frames : ℕ) : Type 0 where
-  pub bounded : Bounded (length piece) len' lines frames
+  pub bounded : Bounded (length piece) lines frames
   pub reads : (line : List ℕ) → Keeps bytes len line → Reads line piece bytes' len' marks' requests' lines frames

@@ -1,13 +1,10 @@
 // The program's lines: the frames among them, and the answers to them as text.
 #![tactic(auto)]
 
-ghost use Rattle.std.specs.Prelude.{◌≡◌, true, ◌&&◌, List, [], ◌∷◌, ◌++◌, ℕ, ◌+◌, ◌*◌, ◌≤◌, ◌<◌, eqb, length, set};
-ghost use Rattle.std.proofs.Math.Seq.{paste};
-ghost use Rattle.meaning.specs.Limits.{frame_size};
-ghost use Rattle.meaning.specs.Program.{all_digits, from_hex};
-ghost use Rattle.requests.specs.Requests.{frame_place};
+ghost use Rattle.std.specs.Prelude.{◌≡◌, true, false, ◌&&◌, List, [], ◌∷◌, ◌++◌, ℕ, ◌+◌, ◌≤◌, eqb, length, take, drop, IfSome};
+ghost use Rattle.meaning.specs.Program.{all_digits};
 ghost use Rattle.hexadecimal.specs.Text.{line_size};
-ghost use Rattle.lines.specs.Lines.{too_long, Keeps, frame_mark};
+ghost use Rattle.lines.specs.Lines.{too_long, Keeps};
 ghost use Rattle.lines.specs.Reading.{HasRoom, EndsLine, FrameAt, CanRead, CanReadOn, ReadsOn, ReadsPiece};
 ghost use Rattle.lines.specs.Printing.{CanPrintLine, PrintsLine, CanPrint, Prints};
 
@@ -40,163 +37,163 @@ fn print_line(mark: u8, answers: &[u8], frames: usize, out: &mut [u8], at: usize
 }
 
 // Writes the answers to lines: the next for each that is a frame, 14 for any other. How many bytes it wrote.
-pub fn print_answers(marks: &[u8], lines: usize, answers: &[u8], out: &mut [u8]) -> usize
-    requires { CanPrint marks.now lines answers.now out.old }
-    ensures { Prints marks.now lines answers.now result out.new }
+pub fn print_answers(marks: &[u8], answers: &[u8], out: &mut [u8]) -> usize
+    requires { CanPrint marks.now answers.now out.old }
+    ensures { Prints marks.now answers.now result out.new }
 {
     let mut frames = 0;
-    let mut i = 0;
-    while i < lines {
-        frames = print_line(marks[i], answers, frames, out, PRINTED_SIZE * i);
-        i += 1;
+    for (i, &mark) in marks.iter().enumerate() {
+        frames = print_line(mark, answers, frames, out, PRINTED_SIZE * i);
     }
-    PRINTED_SIZE * lines
+    PRINTED_SIZE * marks.len()
 }
 
-// Keeps one byte more of a line begun.
-fn keep_byte(begun: &mut [u8; LINE_SIZE], len: usize, b: u8) -> usize
-    requires { len ≤ too_long }
-    ensures { (result ≤ too_long) × ((line : List ℕ) → Keeps begun.old len line → Keeps begun.new result (line ++ (b ∷ []))) }
-{
-    if len < LINE_SIZE {
-        begun[len] = b;
-        return len + 1;
-    }
-    TOO_LONG
+// A line begun: its bytes, as far as a frame has so many, and its length.
+#[derive(Clone, Copy)]
+pub struct Begun {
+    pub digits: [u8; LINE_SIZE],
+    pub len: usize,
+    pub ghost kept: { len ≤ too_long },
 }
 
-fn mark_frame(text: &[u8], marks: &mut [u8], requests: &mut [u8], lines: usize, frames: usize)
-    requires { (length text.now ≡ line_size) × (all_digits text.now ≡ true) × HasRoom marks.old requests.old lines frames }
-    ensures { (marks.new ≡ set marks.old lines frame_mark)
-        × (requests.new ≡ paste requests.old (frame_place frames) (from_hex text.now) frame_size) }
-{
-    hexadecimal::put_frame(text, requests, requests::frame_place(frames));
-    marks[lines] = FRAME;
+impl Begun {
+    // Nothing is read of the line.
+    pub fn new() -> Begun
+        ensures { Keeps result.digits result.len [] }
+    {
+        Begun {
+            digits: [0; LINE_SIZE],
+            len: 0,
+        }
+    }
+
+    // One byte more is read of it.
+    fn keep(&mut self, b: u8)
+        ensures { (line : List ℕ) → Keeps self.old.digits self.old.len line → Keeps self.new.digits self.new.len (line ++ (b ∷ [])) }
+    {
+        if self.len < LINE_SIZE {
+            self.digits[self.len] = b;
+            self.len += 1;
+            return;
+        }
+        self.len = TOO_LONG;
+    }
+
+    fn is_frame(&self) -> bool
+        ensures { result ≡ (eqb self.now.len line_size && all_digits self.now.digits) }
+    {
+        if self.len != LINE_SIZE {
+            return false;
+        }
+        hexadecimal::all_digits(&self.digits)
+    }
 }
 
-// Marks the line that was begun; how many frames there are then.
-fn end_line(
-    begun: &[u8; LINE_SIZE],
-    len: usize,
-    marks: &mut [u8],
-    requests: &mut [u8],
-    lines: usize,
-    frames: usize,
-) -> usize
-    requires { HasRoom marks.old requests.old lines frames }
-    ensures { EndsLine (eqb len line_size && all_digits begun.now) begun.now marks.old requests.old lines frames
-        marks.new requests.new result }
-{
-    if len != LINE_SIZE {
-        marks[lines] = OTHER;
-        return frames;
-    }
-    let digits = hexadecimal::all_digits(begun);
-    if !digits {
-        marks[lines] = OTHER;
-        return frames;
-    }
-    mark_frame(begun, marks, requests, lines, frames);
-    frames + 1
-}
-
-// Whether a frame's digits and a line feed stand there.
-fn is_frame_at(piece: &[u8], at: usize) -> bool
+// The digits of a frame that stands there with its line feed.
+fn frame_at(piece: &[u8], at: usize) -> Option<&[u8]>
     requires { at ≤ length piece.now }
-    ensures { result ≡ true → FrameAt piece.now at }
+    ensures { IfSome result (λ text. FrameAt piece.now at × (text.now ≡ take line_size (drop at piece.now))) }
 {
     if piece.len() - at <= LINE_SIZE {
-        return false;
+        return None;
     }
     let end = at + LINE_SIZE;
     if piece[end] != LINE_FEED {
-        return false;
+        return None;
     }
-    hexadecimal::all_digits(&piece[at..end])
+    let text = &piece[at..end];
+    if hexadecimal::all_digits(text) {
+        return Some(text);
+    }
+    None
 }
 
-// How far a piece is read: to which byte, how much of a line is kept, how many lines and frames ended.
-#[derive(Clone, Copy)]
-struct Reading {
-    at: usize,
-    len: usize,
+// The lines that ended in a piece: a mark for each, and the bytes of the frames among them one after the other.
+#[derive(Drop)]
+struct Ended<'a> {
+    marks: &'a mut [u8],
+    requests: &'a mut [u8],
     lines: usize,
     frames: usize,
 }
 
-fn read_byte(
-    piece: &[u8],
-    begun: &mut [u8; LINE_SIZE],
-    marks: &mut [u8],
-    requests: &mut [u8],
-    s: Reading,
-) -> Reading
-    requires { CanReadOn piece.now s.at s.len marks.old requests.old s.lines s.frames }
-    ensures { ReadsOn piece.now begun.old s.at s.len marks.old requests.old s.lines s.frames
-        begun.new result.at result.len marks.new requests.new result.lines result.frames }
-{
-    let at = s.at;
-    let b = piece[at];
-    if b == LINE_FEED {
-        let frames = end_line(begun, s.len, marks, requests, s.lines, s.frames);
-        return Reading {
-            at: at + 1,
-            len: 0,
-            lines: s.lines + 1,
-            frames: frames,
-        };
+impl Ended<'_> {
+    // A frame has ended.
+    fn put_frame(&mut self, text: &[u8])
+        requires { (length text.now ≡ line_size) × (all_digits text.now ≡ true) × HasRoom self.old.marks.now self.old.requests.now self.old.lines self.old.frames }
+        ensures ended { EndsLine true text.now self.old.marks.now self.old.requests.now self.old.lines self.old.frames
+            self.new.marks.now self.new.requests.now self.new.frames }
+        ensures counted { self.new.lines ≡ self.old.lines + 1 }
+        ensures same_loans { (self.new.marks.ghost_name ≡ self.old.marks.ghost_name) × (self.new.requests.ghost_name ≡ self.old.requests.ghost_name) }
+    {
+        hexadecimal::put_frame(text, self.requests, requests::frame_place(self.frames));
+        self.marks[self.lines] = FRAME;
+        self.lines += 1;
+        self.frames += 1;
     }
-    let len = keep_byte(begun, s.len, b);
-    Reading {
-        at: at + 1,
-        len: len,
-        lines: s.lines,
-        frames: s.frames,
+
+    // Any other line has.
+    fn put_other(&mut self)
+        requires { HasRoom self.old.marks.now self.old.requests.now self.old.lines self.old.frames }
+        ensures ended { (digits : List ℕ) → EndsLine false digits self.old.marks.now self.old.requests.now self.old.lines self.old.frames
+            self.new.marks.now self.new.requests.now self.new.frames }
+        ensures counted { self.new.lines ≡ self.old.lines + 1 }
+        ensures same_loans { (self.new.marks.ghost_name ≡ self.old.marks.ghost_name) × (self.new.requests.ghost_name ≡ self.old.requests.ghost_name) }
+    {
+        self.marks[self.lines] = OTHER;
+        self.lines += 1;
+    }
+
+    fn end_line(&mut self, line: &Begun)
+        requires { HasRoom self.old.marks.now self.old.requests.now self.old.lines self.old.frames }
+        ensures ended { EndsLine (eqb line.now.len line_size && all_digits line.now.digits) line.now.digits self.old.marks.now self.old.requests.now self.old.lines self.old.frames
+            self.new.marks.now self.new.requests.now self.new.frames }
+        ensures counted { self.new.lines ≡ self.old.lines + 1 }
+        ensures same_loans { (self.new.marks.ghost_name ≡ self.old.marks.ghost_name) × (self.new.requests.ghost_name ≡ self.old.requests.ghost_name) }
+    {
+        if line.is_frame() {
+            self.put_frame(&line.digits);
+            return;
+        }
+        self.put_other();
+    }
+
+    fn read_byte(&mut self, piece: &[u8], at: usize, begun: &mut Begun) -> usize
+        requires { CanReadOn piece.now at self.old.marks.now self.old.requests.now self.old.lines self.old.frames }
+        ensures read { ReadsOn piece.now begun.old.digits at begun.old.len self.old.marks.now self.old.requests.now self.old.lines self.old.frames
+            begun.new.digits result begun.new.len self.new.marks.now self.new.requests.now self.new.lines self.new.frames }
+        ensures same_loans { (self.new.marks.ghost_name ≡ self.old.marks.ghost_name) × (self.new.requests.ghost_name ≡ self.old.requests.ghost_name) }
+    {
+        let b = piece[at];
+        if b != LINE_FEED {
+            begun.keep(b);
+            return at + 1;
+        }
+        self.end_line(begun);
+        begun.len = 0;
+        at + 1
+    }
+
+    // A frame that stands whole in the piece goes straight to the requests. To where it is read then.
+    fn read_on(&mut self, piece: &[u8], at: usize, begun: &mut Begun) -> usize
+        requires { CanReadOn piece.now at self.old.marks.now self.old.requests.now self.old.lines self.old.frames }
+        ensures read { ReadsOn piece.now begun.old.digits at begun.old.len self.old.marks.now self.old.requests.now self.old.lines self.old.frames
+            begun.new.digits result begun.new.len self.new.marks.now self.new.requests.now self.new.lines self.new.frames }
+        ensures same_loans { (self.new.marks.ghost_name ≡ self.old.marks.ghost_name) × (self.new.requests.ghost_name ≡ self.old.requests.ghost_name) }
+    {
+        if begun.len == 0 {
+            if let Some(text) = frame_at(piece, at) {
+                self.put_frame(text);
+                return at + LINE_SIZE + 1;
+            }
+        }
+        self.read_byte(piece, at, begun)
     }
 }
 
-// A frame that stands whole in the piece goes straight to the requests.
-fn read_frame(piece: &[u8], marks: &mut [u8], requests: &mut [u8], s: Reading) -> Reading
-    requires { CanReadOn piece.now s.at s.len marks.old requests.old s.lines s.frames × (s.len ≡ 0) × FrameAt piece.now s.at }
-    ensures { (bytes : List ℕ) → ReadsOn piece.now bytes s.at s.len marks.old requests.old s.lines s.frames
-        bytes result.at result.len marks.new requests.new result.lines result.frames }
-{
-    let at = s.at;
-    let end = at + LINE_SIZE;
-    mark_frame(&piece[at..end], marks, requests, s.lines, s.frames);
-    Reading {
-        at: end + 1,
-        len: 0,
-        lines: s.lines + 1,
-        frames: s.frames + 1,
-    }
-}
-
-fn read_on(
-    piece: &[u8],
-    begun: &mut [u8; LINE_SIZE],
-    marks: &mut [u8],
-    requests: &mut [u8],
-    s: Reading,
-) -> Reading
-    requires { CanReadOn piece.now s.at s.len marks.old requests.old s.lines s.frames }
-    ensures { ReadsOn piece.now begun.old s.at s.len marks.old requests.old s.lines s.frames
-        begun.new result.at result.len marks.new requests.new result.lines result.frames }
-{
-    if s.len != 0 {
-        return read_byte(piece, begun, marks, requests, s);
-    }
-    let whole = is_frame_at(piece, s.at);
-    if whole {
-        return read_frame(piece, marks, requests, s);
-    }
-    read_byte(piece, begun, marks, requests, s)
-}
-
-// What is kept of the line begun after a piece, how many lines ended in it, and how many of those are frames.
-#[derive(Clone, Copy)]
+// How many lines ended in a piece, and how many of those are frames.
+#[derive(Clone, Copy, PartialEq, Eq, Debug)]
 pub struct ReadLines {
-    pub len: usize,
     pub lines: usize,
     pub frames: usize,
 }
@@ -204,27 +201,26 @@ pub struct ReadLines {
 // Marks the lines that end in a piece, and puts the bytes of the frames among them one after the other.
 pub fn read_lines(
     piece: &[u8],
-    begun: &mut [u8; LINE_SIZE],
-    len: usize,
+    begun: &mut Begun,
     marks: &mut [u8],
     requests: &mut [u8],
 ) -> ReadLines
-    requires { CanRead piece.now len marks.old requests.old }
-    ensures { ReadsPiece piece.now begun.old len
-        begun.new result.len marks.new requests.new result.lines result.frames }
+    requires { CanRead piece.now marks.old requests.old }
+    ensures { ReadsPiece piece.now begun.old.digits begun.old.len
+        begun.new.digits begun.new.len marks.new requests.new result.lines result.frames }
 {
-    let mut s = Reading {
-        at: 0,
-        len: len,
+    let mut ended = Ended {
+        marks,
+        requests,
         lines: 0,
         frames: 0,
     };
-    while s.at < piece.len() {
-        s = read_on(piece, begun, marks, requests, s);
+    let mut at = 0;
+    while at < piece.len() {
+        at = ended.read_on(piece, at, begun);
     }
     ReadLines {
-        len: s.len,
-        lines: s.lines,
-        frames: s.frames,
+        lines: ended.lines,
+        frames: ended.frames,
     }
 }
