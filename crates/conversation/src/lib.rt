@@ -69,8 +69,10 @@ pub fn talk(
         read.frames,
     );
     let written = lines::print_answers(&marks[..read.lines], &answers, out);
+    // A variable, since the check does not cover an array that goes from field to field.
+    let versions = ran.versions;
     Talked {
-        versions: ran.versions,
+        versions,
         free: ran.free,
         written,
     }
