@@ -1,3 +1,2 @@
--- What the proofs of the functions use, and the laws that callers cite.
-pub mod Copy
+-- The laws that callers cite.
 pub mod CellLaws

@@ -8,38 +8,23 @@ ghost use Rattle.cells.specs.Cells.{cells_of, put_cells};
 use limits::NODE_CELLS;
 
 // The cells of node n, copied out whole.
+#[tactic(auto, unfolding(crate::specs::Cells::cells_of))]
 pub fn cells_of(cells: &[u32], n: usize) -> [u32; NODE_CELLS]
     requires { node_cells * n + node_cells ≤ length cells.now }
     ensures { result ≡ cells_of cells.now n }
 {
     let start = NODE_CELLS * n;
-    let mut out = [0u32; NODE_CELLS];
-    let mut i = 0;
-    while i < NODE_CELLS {
-        out[i] = cells[start + i];
-        i += 1;
-    }
+    let mut out = [0; NODE_CELLS];
+    out.copy_from_slice(&cells[start..start + NODE_CELLS]);
     out
 }
 
-// Writes a over the part that is one node's cells.
-pub fn write_cells(part: &mut [u32], a: [u32; NODE_CELLS])
-    requires { length part.old ≡ node_cells }
-    ensures { part.new ≡ a }
-{
-    let mut i = 0;
-    while i < NODE_CELLS {
-        part[i] = a[i];
-        i += 1;
-    }
-}
-
 // Writes a over the cells of node n.
+#[tactic(auto, unfolding(crate::specs::Cells::put_cells))]
 pub fn put_cells(cells: &mut [u32], n: usize, a: [u32; NODE_CELLS])
     requires { node_cells * n + node_cells ≤ length cells.old }
     ensures { cells.new ≡ put_cells cells.old n a }
 {
     let start = NODE_CELLS * n;
-    let end = start + NODE_CELLS;
-    write_cells(&mut cells[start..end], a);
+    cells[start..start + NODE_CELLS].copy_from_slice(&a);
 }

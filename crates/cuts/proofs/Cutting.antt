@@ -16,13 +16,15 @@ use Rattle.meaning.specs.Shape.{degree, bucket}
 use Rattle.cells.specs.Cells.{cells_of}
 use Rattle.store.specs.Store.{Store, node_count, raise, raises, make}
 use Rattle.store.specs.Ready.{Sized, Room}
+use Rattle.store.specs.Lent.{held, SameSlices}
+use Rattle.store.specs.declared.Store as code
 use Rattle.store.proofs.Raising.{room-less, room-raises}
 use Rattle.shape.proofs.Powers.{degree-power, one-shifts}
 use Rattle.paths.specs.Paths.{Made, Source, source, branch_with, leaf_cut, branch_cut, drop_last}
 use Rattle.paths.specs.Edits.{first_child}
 use Rattle.paths.specs.Ready.{made_of, HasCells, Fork, CanShare, WayToLast, Ready}
 use Rattle.paths.proofs.Steps.{recounted}
-use Rattle.paths.proofs.Ways.{room-made, room-others, length-slice-most, ready-lower, height-small, Kept, share-after}
+use Rattle.paths.proofs.Ways.{room-made, room-others, length-slice-most, ready-lower, height-small, kept, share-after}
 
 -- ---- `index % (1 << (height * bits)) == 0`
 
@@ -113,14 +115,26 @@ pub drop-lower : (s : Store) (bits h n i : ℕ) (c : Source) (b : ℕ) → (h �
     → Ready s bits h (WayToLast s bits h n i) → Ready s bits (h - 1) (WayToLast s bits (h - 1) (get_or c.cells b 0) i)
 drop-lower s bits h n i c b ne p q r = ready-lower s bits h ne r (last-lower s bits h n i c b ne p q r.way).1
 
-pub drop-shares : (s s' : Store) (bits h n i : ℕ) (c : Source) (b m : ℕ) → (h ≡ 0 → ⊥) → c ≡ source s.nodes true n → b ≡ bucket bits h i
-    → b < node_cells → Ready s bits h (WayToLast s bits h n i) → made_of s' m ≡ drop_last s bits (h - 1) (get_or c.cells b 0) i → Kept s s'
-    → CanShare s' c b
-drop-shares s s' bits h n i c b m ne p q l r e k =
-    let w = last-lower s bits h n i c b ne p q r.way in
+drop-order : (s : Store) (bits h n i : ℕ) → (drop_last s bits h n i).store.order ≡ s.order
+unfolding drop_last leaf_cut branch_cut branch_with make
+drop-order s bits zero n i = refl
+drop-order s bits (suc h) n i = by (below s bits h n i) (divides (degree bits ^ suc h) i) (drop-order s bits h (get_or (source s.nodes true n).cells (bucket bits (suc h) i) 0) i)
+  where
+    by : (d : Made) (t : Bool) → d.store.order ≡ s.order → (dropped s bits h n i d t).store.order ≡ s.order
+    by d true e = refl
+    by d false e = e
+
+pub drop-shares : (p q : code.Store) (bits h n i : ℕ) (c : Source) (b m : ℕ) → (h ≡ 0 → ⊥) → c ≡ source (held p).nodes true n → b ≡ bucket bits h i
+    → b < node_cells → Ready (held p) bits h (WayToLast (held p) bits h n i) → made_of (held q) m ≡ drop_last (held p) bits (h - 1) (get_or c.cells b 0) i
+    → SameSlices p q → CanShare (held q) c b
+drop-shares p q bits h n i c b m ne x y l r e same =
+    let s = held p in
+    let s' = held q in
+    let w = last-lower s bits h n i c b ne x y r.way in
     let child = get_or c.cells b 0 in
     let f : s'.free ≡ (drop_last s bits (h - 1) child i).store.free = ap (λ (d : Made). d.store.free) e in
     let o = drop-free s bits (h - 1) child i in
+    let k = kept p q same (ap (λ (d : Made). d.store.order) e ∙ drop-order s bits (h - 1) child i) in
     let small = height-small s bits h r in
     let some = pos_of_ne-zero ne in
     let room : Room node_cells (drop_last s bits (h - 1) child i).store.counts = drop-room s bits (h - 1) child i node_cells (omega arith) w.1 (room-less _ (node_cells * suc h) s.counts (omega arith) r.room) in
@@ -143,7 +157,7 @@ pub first_cell : (cells : List ℕ) (n : ℕ) → get_or cells (node_cells * n +
 unfolding cells_of
 first_cell cells n = rw (get_or-take node_cells (drop (node_cells * n) cells) 0 0 (omega arith), get_or-drop (node_cells * n) cells 0 0)
 
-pub root-compressed : (s : Store) (cs : List ℕ) (n m : ℕ) → m ≡ get_or s.nodes.cells (node_cells * n + 0) 0 → cs ≡ raise s.counts m
+pub root-compressed : (s : Store) (cs : List ℕ) (n m : ℕ) → m ≡ get_or (cells_of s.nodes.cells n) 0 0 → cs ≡ raise s.counts m
     → made_of (recounted s cs) m ≡ first_child s n
 unfolding first_child raises
-root-compressed s cs n m p q = rw (q, p, first_cell s.nodes.cells n)
+root-compressed s cs n m p q = rw (q, p)

@@ -1,13 +1,13 @@
 // Module 3: a path copied without its last element. What would be empty is left out.
 #![tactic(auto)]
 
-ghost use Rattle.std.specs.Prelude.{◌≡◌, ◌&&◌, List, ℕ, ◌-◌, ◌*◌, ◌^◌, ◌≤◌, ◌<◌, leb, eqb, length, get_or};
-ghost use Rattle.meaning.specs.Limits.{word_width};
+ghost use Rattle.std.specs.Prelude.{◌≡◌, ◌&&◌, ◌-◌, ◌*◌, ◌^◌, ◌≤◌, ◌<◌, leb, eqb, length, get_or};
+ghost use Rattle.meaning.specs.Limits.{node_cells, word_width};
 ghost use Rattle.meaning.specs.Counting.{divides};
 ghost use Rattle.meaning.specs.Shape.{degree};
 ghost use Rattle.cells.specs.Cells.{cells_of};
-ghost use Rattle.store.specs.Store.{store_of};
 ghost use Rattle.store.specs.Ready.{Room};
+ghost use Rattle.store.specs.Lent.{held, SameSlices};
 ghost use Rattle.paths.specs.Paths.{leaf_cut, branch_cut, drop_last};
 ghost use Rattle.paths.specs.Edits.{first_child};
 ghost use Rattle.paths.specs.Ready.{made_of, source_of, CanMake, CanShare, WayToLast, Ready};
@@ -15,7 +15,7 @@ ghost use Rattle.paths.specs.Ready.{made_of, source_of, CanMake, CanShare, WayTo
 use paths::Source;
 use records::NodeNo;
 use shape::vector_utils;
-use store::Made;
+use store::{NodeKind, Store};
 
 // Whether an index is the first below some child of a node of that height.
 fn is_first(bits: u32, height: u32, index: u32) -> bool
@@ -26,85 +26,44 @@ fn is_first(bits: u32, height: u32, index: u32) -> bool
 }
 
 // A leaf of the first b values of another.
-fn leaf_cut(
-    kinds: &mut [u8],
-    used: &mut [u8],
-    counts: &mut [u32],
-    cells: &mut [u32],
-    order: &[u32],
-    free: usize,
-    c: Source,
-    b: usize,
-) -> Made
-    requires { CanMake (store_of kinds.old used.old counts.old cells.old order.now free) b }
-    ensures { made_of (store_of kinds.new used.new counts.new cells.new order.now result.free) result.node.0
-        ≡ leaf_cut (store_of kinds.old used.old counts.old cells.old order.now free) (source_of c.cells c.used) b }
+fn leaf_cut(store: &mut Store, c: Source, b: usize) -> NodeNo
+    requires { CanMake (held store.old) b }
+    ensures same_slices { SameSlices store.old store.new }
+    ensures made { made_of (held store.new) result.0 ≡ leaf_cut (held store.old) (source_of c.cells c.used) b }
 {
-    let mut a = c.cells;
-    a[b] = 0;
-    store::make_leaf(kinds, used, counts, cells, order, free, b as u8, a)
+    let mut cells = c.cells;
+    cells[b] = 0;
+    store.make(NodeKind::Leaf, b as u8, cells)
 }
 
 // A branch over the first b children of another, which are shared.
-fn branch_cut(
-    kinds: &mut [u8],
-    used: &mut [u8],
-    counts: &mut [u32],
-    cells: &mut [u32],
-    order: &[u32],
-    free: usize,
-    c: Source,
-    b: usize,
-) -> Made
-    requires { CanShare (store_of kinds.old used.old counts.old cells.old order.now free) (source_of c.cells c.used) b }
-    ensures { made_of (store_of kinds.new used.new counts.new cells.new order.now result.free) result.node.0
-        ≡ branch_cut (store_of kinds.old used.old counts.old cells.old order.now free) (source_of c.cells c.used) b }
+fn branch_cut(store: &mut Store, c: Source, b: usize) -> NodeNo
+    requires { CanShare (held store.old) (source_of c.cells c.used) b }
+    ensures same_slices { SameSlices store.old store.new }
+    ensures made { made_of (held store.new) result.0 ≡ branch_cut (held store.old) (source_of c.cells c.used) b }
 {
-    let mut a = c.cells;
-    store::raise_range(counts, a, 0, b);
-    a[b] = 0;
-    store::make_branch(kinds, used, counts, cells, order, free, b as u8, a)
+    store::raise_all(store.counts, &c.cells[..b]);
+    let mut cells = c.cells;
+    cells[b] = 0;
+    store.make(NodeKind::Branch, b as u8, cells)
 }
 
 // The way to the last index below a node of that height, copied without it.
-pub fn drop_last(
-    kinds: &mut [u8],
-    used: &mut [u8],
-    counts: &mut [u32],
-    cells: &mut [u32],
-    order: &[u32],
-    free: usize,
-    bits: u32,
-    height: u32,
-    node: NodeNo,
-    last: u32,
-) -> Made
-    requires { Ready (store_of kinds.old used.old counts.old cells.old order.now free) bits height
-        (WayToLast (store_of kinds.old used.old counts.old cells.old order.now free) bits height node.0 last) }
-    ensures { made_of (store_of kinds.new used.new counts.new cells.new order.now result.free) result.node.0
-        ≡ drop_last (store_of kinds.old used.old counts.old cells.old order.now free) bits height node.0 last }
+pub fn drop_last(store: &mut Store, bits: u32, height: u32, node: NodeNo, last: u32) -> NodeNo
+    requires { Ready (held store.old) bits height (WayToLast (held store.old) bits height node.0 last) }
+    ensures same_slices { SameSlices store.old store.new }
+    ensures made { made_of (held store.new) result.0 ≡ drop_last (held store.old) bits height node.0 last }
 {
-    let c = paths::source_of(used, cells, true, node);
+    let c = paths::source_of(store, Some(node));
     let b = vector_utils::bucket(bits, last, height) as usize;
     if height == 0 {
-        return leaf_cut(kinds, used, counts, cells, order, free, c, b);
+        return leaf_cut(store, c, b);
     }
     if is_first(bits, height, last) {
-        return branch_cut(kinds, used, counts, cells, order, free, c, b);
+        return branch_cut(store, c, b);
     }
-    let r = drop_last(
-        kinds,
-        used,
-        counts,
-        cells,
-        order,
-        free,
-        bits,
-        height - 1,
-        NodeNo(c.cells[b]),
-        last,
-    );
-    paths::branch_with(kinds, used, counts, cells, order, r.free, c, b, r.node)
+    let copy = drop_last(store, bits, height - 1, NodeNo(c.cells[b]), last);
+    paths::branch_with(store, c, b, copy)
 }
 
 // Whether a drop leaves a root of that height with one child.
@@ -115,16 +74,21 @@ pub fn loses_root(bits: u32, height: u32, length: u32) -> bool
     (height >= 1) & (length - 1 == 1 << (height * bits))
 }
 
-// The root's first child takes its place, shared. Nothing else of the store matters.
-pub fn compress_root(counts: &mut [u32], cells: &[u32], free: usize, root: NodeNo) -> Made
-    requires { (get_or (cells_of cells.now root.0) 0 0 < length counts.old) × Room 1 counts.old }
-    ensures { (kinds used order : List ℕ) → made_of (store_of kinds used counts.new cells.now order result.free) result.node.0
-        ≡ first_child (store_of kinds used counts.old cells.now order free) root.0 }
+#[tactic(auto, using(crate::proofs::Cutting::first_cell))]
+fn first_child(store: &Store, root: NodeNo) -> NodeNo
+    ensures { result.0 ≡ get_or (cells_of store.now.cells.now root.0) 0 0 }
 {
-    let child = NodeNo(lookup::cell_at(cells, root, 0));
-    store::raise(counts, child);
-    Made {
-        node: child,
-        free: free,
-    }
+    let cells = &*store.cells;
+    NodeNo(lookup::cell_at(cells, root, 0))
+}
+
+// The root's first child takes its place, shared. Nothing else of the store matters.
+pub fn compress_root(store: &mut Store, root: NodeNo) -> NodeNo
+    requires { (get_or (cells_of store.old.cells.now root.0) 0 0 < length store.old.counts.now) × Room 1 store.old.counts.now }
+    ensures same_slices { SameSlices store.old store.new }
+    ensures made { made_of (held store.new) result.0 ≡ first_child (held store.old) root.0 }
+{
+    let child = first_child(store, root);
+    store::raise(store.counts, child);
+    child
 }

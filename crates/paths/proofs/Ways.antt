@@ -10,15 +10,20 @@ use native.Mathlib.Omega.{arith}
 use lib.Dec.{ltb}
 use lib.ListN.{length, take, get_or, set, replicate, length-append, length-take, length-drop}
 use lib.Seq.{slice, get_or-set_same, get_or-set_other, set_out}
+use Rattle.std.specs.Prelude.{Option, is_some}
+use Rattle.std.specs.Bool.{then_some}
 use Rattle.meaning.specs.Limits.{node_cells, word_width}
 use Rattle.meaning.specs.Shape.{bucket}
 use Rattle.store.specs.Store.{Store, node_count, raises, top, make}
 use Rattle.store.specs.Ready.{Sized, FreeOnTop, Room, AllBelow}
 use Rattle.store.specs.Answers.{others}
+use Rattle.store.specs.Lent.{held, SameSlices}
+use Rattle.store.specs.declared.Store as code
+use Rattle.records.specs.declared.NodeNo.{NodeNo}
 use Rattle.store.proofs.Raising.{below_at, below-fewer, room-less, room-raises}
 use Rattle.shape.proofs.Powers.{shift_falls}
 use Rattle.paths.specs.Paths.{Made, Source, source, leaf_with, branch_with, assoc, grow}
-use Rattle.paths.specs.Ready.{made_of, source_of, HasCells, CanMake, Fork, CanShare, Way, WayBeyond, Ready}
+use Rattle.paths.specs.Ready.{made_of, source_of, node_number, HasCells, CanMake, Fork, CanShare, Way, WayBeyond, Ready}
 
 -- ---- room
 
@@ -107,6 +112,9 @@ pub record Kept (s s' : Store) : Type 0 where
   pub cells : length s'.nodes.cells ≡ length s.nodes.cells
   pub order : s'.order ≡ s.order
 
+pub kept : (p q : code.Store) → SameSlices p q → q.order.now ≡ p.order.now → Kept (held p) (held q)
+kept p q k e = record { kinds = k.kinds.length; used = k.used.length; counts = k.counts.length; cells = k.cells.length; order = e }
+
 -- once the way below is copied, the branch above it can be made
 pub share-after : {W : Type 0} (s s' : Store) (bits h : ℕ) (c : Source) (b : ℕ) → Ready s bits h W → Kept s s' → b < node_cells → Fork (node_count s) c b
     → 0 < s'.free → s'.free ≤ s.free → Room node_cells s'.counts → CanShare s' c b
@@ -149,9 +157,34 @@ unfolding Way
 way-lower s bits zero there n i c b ne p q w = absurd (ne refl)
 way-lower s bits (suc h) there n i c b ne p q w = rw (sub-one, p, q) (w.1, w.2)
 
-pub assoc-lower : (s : Store) (bits h : ℕ) (there : Bool) (n i : ℕ) (c : Source) (b : ℕ) → (h ≡ 0 → ⊥) → c ≡ source s.nodes there n → b ≡ bucket bits h i
-    → Ready s bits h (Way s bits h there n i) → Ready s bits (h - 1) (Way s bits (h - 1) (ltb b c.used) (get_or c.cells b 0) i)
-assoc-lower s bits h there n i c b ne p q r = ready-lower s bits h ne r (way-lower s bits h there n i c b ne p q r.way).1
+-- ---- the child that is copied: one of those in use, or none
+
+-- where there is no node, its number does not matter
+assoc-new : (s : Store) (bits h n m i v : ℕ) → assoc s bits h false n i v ≡ assoc s bits h false m i v
+unfolding assoc source
+assoc-new s bits zero n m i v = refl
+assoc-new s bits (suc h) n m i v = refl
+
+way-new : (s : Store) (bits h n m i : ℕ) → Way s bits h false n i → Way s bits h false m i
+unfolding Way source
+way-new s bits zero n m i w = λ e. absurd (cc)
+way-new s bits (suc h) n m i w = (λ e. absurd (cc), w.1, w.2)
+
+pub assoc-child : (s : Store) (bits h : ℕ) (t : Bool) (n i v : ℕ) (o : Option NodeNo) (x : NodeNo) → o ≡ then_some t x → x.0 ≡ n
+    → assoc s bits h (is_some o) (node_number o) i v ≡ assoc s bits h t n i v
+assoc-child s bits h true n i v o x e f = rw (e, f)
+assoc-child s bits h false n i v o x e f = rw e (assoc-new s bits h 0 n i v)
+
+way-child : (s : Store) (bits h : ℕ) (t : Bool) (n i : ℕ) (o : Option NodeNo) (x : NodeNo) → o ≡ then_some t x → x.0 ≡ n
+    → Way s bits h t n i → Way s bits h (is_some o) (node_number o) i
+way-child s bits h true n i o x e f w = rw (e, f) w
+way-child s bits h false n i o x e f w = rw e (way-new s bits h n 0 i w)
+
+pub assoc-lower : (s : Store) (bits h : ℕ) (there : Bool) (n i : ℕ) (c : Source) (b : ℕ) (o : Option NodeNo) (x : NodeNo) → (h ≡ 0 → ⊥)
+    → c ≡ source s.nodes there n → b ≡ bucket bits h i → o ≡ then_some (ltb b c.used) x → x.0 ≡ get_or c.cells b 0
+    → Ready s bits h (Way s bits h there n i) → Ready s bits (h - 1) (Way s bits (h - 1) (is_some o) (node_number o) i)
+assoc-lower s bits h there n i c b o x ne p q e f r =
+    ready-lower s bits h ne r (way-child s bits (h - 1) (ltb b c.used) (get_or c.cells b 0) i o x e f (way-lower s bits h there n i c b ne p q r.way).1)
 
 -- after a way of height h, where one of height k or more could be copied
 assoc-leaves : {W : Type 0} (s s' : Store) (bits h k : ℕ) (there : Bool) (n i v m : ℕ) → h < k → Ready s bits k W → Way s bits h there n i
@@ -162,13 +195,23 @@ assoc-leaves s s' bits h k there n i v m l r w e =
     let room : Room node_cells (assoc s bits h there n i v).store.counts = assoc-room s bits h there n i v node_cells (omega arith) w (room-less _ (node_cells * suc k) s.counts (omega arith) r.room) in
     (omega (arith, r.enough), omega arith, rw (ap (λ (d : Made). d.store.counts) e) room)
 
-pub assoc-shares : (s s' : Store) (bits h : ℕ) (there : Bool) (n i v : ℕ) (c : Source) (b m : ℕ) → (h ≡ 0 → ⊥) → c ≡ source s.nodes there n → b ≡ bucket bits h i
-    → b < node_cells → Ready s bits h (Way s bits h there n i) → made_of s' m ≡ assoc s bits (h - 1) (ltb b c.used) (get_or c.cells b 0) i v → Kept s s'
-    → CanShare s' c b
-assoc-shares s s' bits h there n i v c b m ne p q l r e k =
-    let w = way-lower s bits h there n i c b ne p q r.way in
-    let o = assoc-leaves s s' bits (h - 1) h _ _ i v m (omega (arith, pos_of_ne-zero ne)) r w.1 e in
-    share-after s s' bits h c b r k l w.0 o.0 o.1 o.2
+assoc-order : (s : Store) (bits h : ℕ) (there : Bool) (n i v : ℕ) → (assoc s bits h there n i v).store.order ≡ s.order
+unfolding assoc leaf_with branch_with make
+assoc-order s bits zero there n i v = refl
+assoc-order s bits (suc h) there n i v = assoc-order s bits h (ltb (bucket bits (suc h) i) (source s.nodes there n).used) (get_or (source s.nodes there n).cells (bucket bits (suc h) i) 0) i v
+
+assoc-kept : (p q : code.Store) (bits h : ℕ) (there : Bool) (n i v m : ℕ) → SameSlices p q → made_of (held q) m ≡ assoc (held p) bits h there n i v → Kept (held p) (held q)
+assoc-kept p q bits h there n i v m k e = kept p q k (ap (λ (d : Made). d.store.order) e ∙ assoc-order (held p) bits h there n i v)
+
+pub assoc-shares : (p q : code.Store) (bits h : ℕ) (there : Bool) (n i v : ℕ) (c : Source) (b : ℕ) (o : Option NodeNo) (x : NodeNo) (m : ℕ) → (h ≡ 0 → ⊥)
+    → c ≡ source (held p).nodes there n → b ≡ bucket bits h i → o ≡ then_some (ltb b c.used) x → x.0 ≡ get_or c.cells b 0 → b < node_cells
+    → Ready (held p) bits h (Way (held p) bits h there n i) → made_of (held q) m ≡ assoc (held p) bits (h - 1) (is_some o) (node_number o) i v → SameSlices p q
+    → CanShare (held q) c b
+assoc-shares p q bits h there n i v c b o x m ne e f g k l r d same =
+    let w = way-lower (held p) bits h there n i c b ne e f r.way in
+    let way = way-child (held p) bits (h - 1) (ltb b c.used) (get_or c.cells b 0) i o x g k w.1 in
+    let left = assoc-leaves (held p) (held q) bits (h - 1) h _ _ i v m (omega (arith, pos_of_ne-zero ne)) r way d in
+    share-after (held p) (held q) bits h c b r (assoc-kept p q bits (h - 1) _ _ i v m same d) l w.0 left.0 left.1 left.2
 
 -- ---- `grow`
 
@@ -181,12 +224,13 @@ unfolding AllBelow
 one_below n root xs h zero l = h
 one_below n root xs h (suc i) l = absurd (omega arith)
 
-pub grow-shares : (s s' : Store) (bits h root i v m : ℕ) → Ready s bits (suc h) (WayBeyond s bits h root i) → made_of s' m ≡ assoc s bits h false 0 i v → Kept s s'
-    → CanShare s' (over_root root) 1
-grow-shares s s' bits h root i v m r e k =
-    let o = assoc-leaves s s' bits h (suc h) false 0 i v m (omega arith) r r.way.1 e in
-    let f : Fork (node_count s) (over_root root) 1 = record { few = omega arith; next = omega arith; children = one_below (node_count s) root (replicate (node_cells - 1) 0) r.way.0 } in
-    share-after s s' bits (suc h) (over_root root) 1 r k (omega arith) f o.0 o.1 o.2
+pub grow-shares : (p q : code.Store) (bits h root i v m : ℕ) → Ready (held p) bits (suc h) (WayBeyond (held p) bits h root i)
+    → made_of (held q) m ≡ assoc (held p) bits h false 0 i v → SameSlices p q → CanShare (held q) (over_root root) 1
+grow-shares p q bits h root i v m r e k =
+    let o = assoc-leaves (held p) (held q) bits h (suc h) false 0 i v m (omega arith) r r.way.1 e in
+    let n = node_count (held p) in
+    let f : Fork n (over_root root) 1 = record { few = omega arith; next = omega arith; children = one_below n root (replicate (node_cells - 1) 0) r.way.0 } in
+    share-after (held p) (held q) bits (suc h) (over_root root) 1 r (assoc-kept p q bits h false 0 i v m k e) (omega arith) f o.0 o.1 o.2
 
 pub root-grown : (s : Store) (bits h root i v : ℕ) (r m : Made) → r ≡ assoc s bits h false 0 i v → m ≡ branch_with (over_root root) 1 r → m ≡ grow s bits h root i v
 unfolding grow

@@ -1,8 +1,9 @@
 -- What the functions that copy a path answer and require.
-use Rattle.std.specs.Prelude.{◌≡◌, Bool, true, false, List, ℕ, zero, suc, ◌+◌, ◌*◌, ◌≤◌, ◌<◌, ltb, length, take, get_or}
+use Rattle.std.specs.Prelude.{◌≡◌, Bool, true, false, Option, Some, None, List, ℕ, zero, suc, ◌+◌, ◌*◌, ◌≤◌, ◌<◌, ltb, length, take, get_or}
 use Rattle.meaning.specs.Limits.{node_cells, word_width}
 use Rattle.meaning.specs.Shape.{bucket}
 use Rattle.meaning.specs.WellFormed.{LegalBits}
+use Rattle.records.specs.declared.NodeNo.{NodeNo}
 use Rattle.store.specs.Store.{Store, node_count}
 use Rattle.store.specs.Ready.{Sized, FreeOnTop, Room, AllBelow}
 use Rattle.paths.specs.Paths.{Made, Source, source}
@@ -12,6 +13,11 @@ made_of s n = record { store = s; node = n }
 
 abbrev pub source_of : (cells : List ℕ) → (used : ℕ) → Source
 source_of a u = record { cells = a; used = u }
+
+-- the number of a node that is there; where none is, what is made does not depend on it
+abbrev pub node_number : Option NodeNo → ℕ
+node_number (Some n) = n.0
+node_number None = 0
 
 -- ---- one node
 

@@ -1,17 +1,16 @@
 // Module 3: path copying. The nodes from a root to one leaf are made anew, bottom up, and everything beside them is shared.
 #![tactic(auto)]
 
-ghost use Rattle.std.specs.Prelude.{◌≡◌, true, List, ℕ, suc, ◌+◌, ◌<◌, max};
-ghost use Rattle.meaning.specs.Limits.{node_cells};
-ghost use Rattle.store.specs.Store.{nodes_of, store_of};
+ghost use Rattle.std.specs.Prelude.{◌≡◌, true, None, is_some, suc};
+ghost use Rattle.store.specs.Lent.{held, SameSlices};
 ghost use Rattle.paths.specs.Paths.{source, leaf_with, branch_with, assoc, grow};
 ghost use Rattle.paths.specs.Edits.{empty_leaf};
-ghost use Rattle.paths.specs.Ready.{made_of, source_of, HasCells, CanMake, CanShare, Way, WayBeyond, Ready};
+ghost use Rattle.paths.specs.Ready.{made_of, source_of, node_number, HasCells, CanMake, CanShare, Way, WayBeyond, Ready};
 
 use limits::NODE_CELLS;
 use records::NodeNo;
 use shape::vector_utils;
-use store::Made;
+use store::{NodeKind, Store};
 
 // A node that is copied: its cells, and how many it uses.
 #[derive(Clone, Copy)]
@@ -21,174 +20,90 @@ pub struct Source {
 }
 
 // A node copied out whole, or a new one of which nothing is used yet. Its kind does not matter.
-pub fn source_of(used: &[u8], cells: &[u32], there: bool, n: NodeNo) -> Source
-    requires { there ≡ true → HasCells used.now cells.now n.0 }
-    ensures { (kinds : List ℕ) → source_of result.cells result.used ≡ source (nodes_of kinds used.now cells.now) there n.0 }
+pub fn source_of(store: &Store, node: Option<NodeNo>) -> Source
+    requires { is_some node ≡ true → HasCells store.now.used.now store.now.cells.now (node_number node) }
+    ensures { source_of result.cells result.used ≡ source (held store.now).nodes (is_some node) (node_number node) }
 {
-    if there {
-        let i = n.0 as usize;
-        let a = cells::cells_of(cells, i);
-        return Source {
-            cells: a,
-            used: used[i],
-        };
-    }
-    Source {
-        cells: [0; NODE_CELLS],
-        used: 0,
+    match node {
+        Some(n) => Source {
+            cells: store.cells_of(n),
+            used: store.used[n.0 as usize],
+        },
+        None => Source {
+            cells: [0; NODE_CELLS],
+            used: 0,
+        },
     }
 }
 
-pub fn new_empty_leaf(
-    kinds: &mut [u8],
-    used: &mut [u8],
-    counts: &mut [u32],
-    cells: &mut [u32],
-    order: &[u32],
-    free: usize,
-) -> Made
-    requires { CanMake (store_of kinds.old used.old counts.old cells.old order.now free) 0 }
-    ensures { made_of (store_of kinds.new used.new counts.new cells.new order.now result.free) result.node.0
-        ≡ empty_leaf (store_of kinds.old used.old counts.old cells.old order.now free) }
+pub fn new_empty_leaf(store: &mut Store) -> NodeNo
+    requires { CanMake (held store.old) 0 }
+    ensures same_slices { SameSlices store.old store.new }
+    ensures made { made_of (held store.new) result.0 ≡ empty_leaf (held store.old) }
 {
-    store::make_leaf(kinds, used, counts, cells, order, free, 0, [0; NODE_CELLS])
+    store.make(NodeKind::Leaf, 0, [0; NODE_CELLS])
 }
 
-// How many cells are in use once cell b is, which is one of them or the next.
-fn used_with(used: u8, b: usize) -> u8
-    requires { b < node_cells }
-    ensures { result ≡ max used (b + 1) }
+pub fn leaf_with(store: &mut Store, c: Source, b: usize, value: u32) -> NodeNo
+    requires { CanMake (held store.old) b }
+    ensures same_slices { SameSlices store.old store.new }
+    ensures made { made_of (held store.new) result.0 ≡ leaf_with (held store.old) (source_of c.cells c.used) b value }
 {
-    let next = (b + 1) as u8;
-    if used < next {
-        return next;
-    }
-    used
-}
-
-pub fn leaf_with(
-    kinds: &mut [u8],
-    used: &mut [u8],
-    counts: &mut [u32],
-    cells: &mut [u32],
-    order: &[u32],
-    free: usize,
-    c: Source,
-    b: usize,
-    value: u32,
-) -> Made
-    requires { CanMake (store_of kinds.old used.old counts.old cells.old order.now free) b }
-    ensures { made_of (store_of kinds.new used.new counts.new cells.new order.now result.free) result.node.0
-        ≡ leaf_with (store_of kinds.old used.old counts.old cells.old order.now free) (source_of c.cells c.used) b value }
-{
-    let mut a = c.cells;
-    a[b] = value;
-    let used_now = used_with(c.used, b);
-    store::make_leaf(kinds, used, counts, cells, order, free, used_now, a)
+    let mut cells = c.cells;
+    cells[b] = value;
+    store.make(NodeKind::Leaf, c.used.max(b as u8 + 1), cells)
 }
 
 // The other children are shared: each gets one link more.
-pub fn branch_with(
-    kinds: &mut [u8],
-    used: &mut [u8],
-    counts: &mut [u32],
-    cells: &mut [u32],
-    order: &[u32],
-    free: usize,
-    c: Source,
-    b: usize,
-    child: NodeNo,
-) -> Made
-    requires { CanShare (store_of kinds.old used.old counts.old cells.old order.now free) (source_of c.cells c.used) b }
-    ensures { made_of (store_of kinds.new used.new counts.new cells.new order.now result.free) result.node.0
-        ≡ branch_with (source_of c.cells c.used) b (made_of (store_of kinds.old used.old counts.old cells.old order.now free) child.0) }
+pub fn branch_with(store: &mut Store, c: Source, b: usize, child: NodeNo) -> NodeNo
+    requires { CanShare (held store.old) (source_of c.cells c.used) b }
+    ensures same_slices { SameSlices store.old store.new }
+    ensures made { made_of (held store.new) result.0 ≡ branch_with (source_of c.cells c.used) b (made_of (held store.old) child.0) }
 {
-    let mut a = c.cells;
-    let len = c.used as usize;
-    store::raise_others(counts, a, len, b);
-    a[b] = child.0;
-    let used_now = used_with(c.used, b);
-    store::make_branch(kinds, used, counts, cells, order, free, used_now, a)
+    let mut cells = c.cells;
+    store::raise_others(store.counts, &c.cells[..c.used as usize], b);
+    cells[b] = child.0;
+    store.make(NodeKind::Branch, c.used.max(b as u8 + 1), cells)
 }
 
 // The way to an index below a node of that height, copied with a value there. A node that is not there is made.
 pub fn assoc(
-    kinds: &mut [u8],
-    used: &mut [u8],
-    counts: &mut [u32],
-    cells: &mut [u32],
-    order: &[u32],
-    free: usize,
+    store: &mut Store,
     bits: u32,
     height: u32,
-    there: bool,
-    node: NodeNo,
+    node: Option<NodeNo>,
     index: u32,
     value: u32,
-) -> Made
-    requires { Ready (store_of kinds.old used.old counts.old cells.old order.now free) bits height
-        (Way (store_of kinds.old used.old counts.old cells.old order.now free) bits height there node.0 index) }
-    ensures { made_of (store_of kinds.new used.new counts.new cells.new order.now result.free) result.node.0
-        ≡ assoc (store_of kinds.old used.old counts.old cells.old order.now free) bits height there node.0 index value }
+) -> NodeNo
+    requires { Ready (held store.old) bits height (Way (held store.old) bits height (is_some node) (node_number node) index) }
+    ensures same_slices { SameSlices store.old store.new }
+    ensures made { made_of (held store.new) result.0 ≡ assoc (held store.old) bits height (is_some node) (node_number node) index value }
 {
-    let c = source_of(used, cells, there, node);
+    let c = source_of(store, node);
     let b = vector_utils::bucket(bits, index, height) as usize;
     if height == 0 {
-        return leaf_with(kinds, used, counts, cells, order, free, c, b, value);
+        return leaf_with(store, c, b, value);
     }
-    let child = NodeNo(c.cells[b]);
-    let r = assoc(
-        kinds,
-        used,
-        counts,
-        cells,
-        order,
-        free,
-        bits,
-        height - 1,
-        b < c.used as usize,
-        child,
-        index,
-        value,
-    );
-    branch_with(kinds, used, counts, cells, order, r.free, c, b, r.node)
+    let child = (b < c.used as usize).then_some(NodeNo(c.cells[b]));
+    let copy = assoc(store, bits, height - 1, child, index, value);
+    branch_with(store, c, b, copy)
 }
 
 // A new root over a full one of that height, with the way to the first index beyond it.
 pub fn grow(
-    kinds: &mut [u8],
-    used: &mut [u8],
-    counts: &mut [u32],
-    cells: &mut [u32],
-    order: &[u32],
-    free: usize,
+    store: &mut Store,
     bits: u32,
     height: u32,
     root: NodeNo,
     index: u32,
     value: u32,
-) -> Made
-    requires { Ready (store_of kinds.old used.old counts.old cells.old order.now free) bits (suc height)
-        (WayBeyond (store_of kinds.old used.old counts.old cells.old order.now free) bits height root.0 index) }
-    ensures { made_of (store_of kinds.new used.new counts.new cells.new order.now result.free) result.node.0
-        ≡ grow (store_of kinds.old used.old counts.old cells.old order.now free) bits height root.0 index value }
+) -> NodeNo
+    requires { Ready (held store.old) bits (suc height) (WayBeyond (held store.old) bits height root.0 index) }
+    ensures same_slices { SameSlices store.old store.new }
+    ensures made { made_of (held store.new) result.0 ≡ grow (held store.old) bits height root.0 index value }
 {
-    let r = assoc(
-        kinds,
-        used,
-        counts,
-        cells,
-        order,
-        free,
-        bits,
-        height,
-        false,
-        NodeNo(0),
-        index,
-        value,
-    );
-    let mut a = [0u32; NODE_CELLS];
-    a[0] = root.0;
-    let c = Source { cells: a, used: 1 };
-    branch_with(kinds, used, counts, cells, order, r.free, c, 1, r.node)
+    let copy = assoc(store, bits, height, None, index, value);
+    let mut cells = [0; NODE_CELLS];
+    cells[0] = root.0;
+    branch_with(store, Source { cells, used: 1 }, 1, copy)
 }

@@ -1,19 +1,20 @@
 -- Laws of raised counts, and of what is needed to raise them.
-use mathlib.Core.Path.{◌≡◌, refl, sym, ◌∙◌}
+use mathlib.Core.Path.{◌≡◌, refl, sym, ap, ◌∙◌}
 use mathlib.Core.List.{List, [], ◌∷◌, ◌++◌}
-use Prim.Native.Nat.{ℕ, suc, ◌+◌, ◌^◌, ◌≤◌, ◌<◌}
+use Prim.Native.Nat.{ℕ, suc, ◌+◌, ◌-◌, ◌^◌, ◌≤◌, ◌<◌, min}
 use native.Mathlib.Numerals.{add-one}
 use native.Mathlib.Omega.{arith}
 use native.Mathlib.Nat.{lt_of_not-le}
 use native.Mathlib.Decide.{ℕ_discrete, dec_lt}
 use lib.Dec.{eqb}
-use lib.ListN.{length, take, get_or, set, length-set, length-take, drop_of_length-le}
-use lib.Seq.{slice, slice-cons, lt-length-set, length-take-le, get_or-take, get_or-set_same, get_or-set_other, set_out}
+use lib.ListN.{length, take, drop, get_or, set, length-set, length-take, length-drop, drop_of_length-le}
+use lib.Seq.{slice, take_all, drop-cons, lt-length-set, length-take-le, get_or-take, get_or-drop, get_or-set_same, get_or-set_other, set_out}
 use Rattle.meaning.specs.Limits.{word_width}
 use Rattle.meaning.specs.Counting.{bit, occurrences}
 use Rattle.meaning.proofs.Sums.{bit-same, bit-other}
 use Rattle.store.specs.Store.{raise, raises}
 use Rattle.store.specs.Ready.{Room, AllBelow}
+use Rattle.store.specs.Answers.{others}
 
 -- ---- below
 
@@ -28,6 +29,12 @@ unfolding AllBelow
 below-fewer n a t u l ok h i k =
     let j : i < t = rw (length-take-le t a (omega arith)) at k in
     rw (get_or-take t a i 0) (below_at n a u i h (omega arith) ok)
+
+pub below-part : (n : ℕ) (ms : List ℕ) (i t : ℕ) → AllBelow n ms → AllBelow n (take t (drop i ms))
+unfolding AllBelow
+below-part n ms i t h j l =
+    let k : j < min t (length ms - i) = simp (length-take, length-drop) at l in
+    rw (get_or-take t (drop i ms) j 0 (omega arith), get_or-drop i ms j 0) (h (i + j) (omega arith))
 
 -- ---- room
 
@@ -77,20 +84,25 @@ unfolding raises
 raises-append cs [] ns = refl
 raises-append cs (m ∷ ms) ns = raises-append (raise cs m) ms ns
 
--- one turn of the loop over a range
-pub raises-turn : (cs cs' cs₀ a : List ℕ) (i t : ℕ) → i < t → t ≤ length a → cs' ≡ raise cs (get_or a i 0) → raises cs (slice i t a) ≡ cs₀
-    → raises cs' (slice (i + 1) t a) ≡ cs₀
+-- one turn of the loop over a list
+pub raises-turn : (cs cs' cs₀ ns : List ℕ) (i : ℕ) → i < length ns → cs' ≡ raise cs (get_or ns i 0) → raises cs (drop i ns) ≡ cs₀ → raises cs' (drop (i + 1) ns) ≡ cs₀
 unfolding raises
-raises-turn cs cs' cs₀ a i t h l e r = rw (e, add-one i) (rw (slice-cons i t a 0) at r)
+raises-turn cs cs' cs₀ ns i l e r = rw (e, add-one i) (rw (drop-cons ns i 0) at r)
 
-slice-past : (i t : ℕ) (a : List ℕ) → t ≤ i → slice i t a ≡ []
-slice-past i t a h = drop_of_length-le (take t a) {i = i} (simp length-take (omega arith))
-
-pub raises-none : (cs a : List ℕ) (i t : ℕ) → t ≤ i → raises cs (slice i t a) ≡ cs
+pub raises-end : (cs cs₀ ns : List ℕ) (i : ℕ) → length ns ≤ i → raises cs (drop i ns) ≡ cs₀ → cs ≡ cs₀
 unfolding raises
-raises-none cs a i t h = rw (slice-past i t a h)
+raises-end cs cs₀ ns i l r = rw (drop_of_length-le ns {i = i} l) at r
 
--- two ranges one after the other
-pub others-raised : (cs cs₁ cs₂ a : List ℕ) (len but : ℕ) → cs₁ ≡ raises cs (slice 0 but a) → cs₂ ≡ raises cs₁ (slice (but + 1) len a)
-    → cs₂ ≡ raises cs (slice 0 but a ++ slice (but + 1) len a)
-others-raised cs cs₁ cs₂ a len but p q = rw (raises-append cs (slice 0 but a), ← p) q
+-- two parts one after the other
+pub others-raised : (cs cs₁ cs₂ a : List ℕ) (but next : ℕ) → next ≡ min (length a) (but + 1) → cs₁ ≡ raises cs (take but a)
+    → cs₂ ≡ raises cs₁ (take (length a - next) (drop next a)) → cs₂ ≡ raises cs (others a (length a) but)
+others-raised cs cs₁ cs₂ a but next n p q = rw (raises-append cs (slice 0 but a), ← p, take_all (length a) a (omega arith), ← past) q
+  where
+    after : next ≤ length a
+    after = omega arith
+
+    past : take (length a - next) (drop next a) ≡ drop (but + 1) a
+    past = take_all (length a - next) (drop next a) (simp length-drop (omega arith)) ∙ elim (dec_lt but (length a)) [
+      | yes l ↦ ap (λ (k : ℕ). drop k a) (omega arith)
+      | no l ↦ drop_of_length-le a {i = next} (omega arith) ∙ sym (drop_of_length-le a {i = but + 1} (omega (arith, lt_of_not-le l)))
+    ]

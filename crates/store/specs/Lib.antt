@@ -2,3 +2,4 @@ pub mod Store
 pub mod Ready
 pub mod Answers
 pub mod Frame
+pub mod Lent

@@ -1,148 +1,122 @@
 // Module 2: a store of nodes in slices that the caller lends.
 #![tactic(auto)]
 
-ghost use Rattle.std.specs.Prelude.{◌≡◌, ◌+◌, ◌-◌, ◌≤◌, ◌<◌, length, take, get_or};
-ghost use Rattle.std.proofs.Math.Seq.{slice};
-ghost use Rattle.meaning.specs.Limits.{node_cells, leaf_kind, branch_kind};
-ghost use Rattle.store.specs.Store.{nodes_of, store_of, raise, raises};
+ghost use Rattle.std.specs.Prelude.{◌≡◌, ◌+◌, ◌*◌, ◌≤◌, ◌<◌, length};
+ghost use Rattle.meaning.specs.Limits.{node_cells};
+ghost use Rattle.cells.specs.Cells.{cells_of};
+ghost use Rattle.store.specs.Store.{raise, raises, top};
 ghost use Rattle.store.specs.Ready.{Sized, FreeOnTop, HasPlace, Room, AllBelow};
 ghost use Rattle.store.specs.Answers.{Written, Makes, others};
+ghost use Rattle.store.specs.Lent.{held, SameSlices, kind_byte};
 
 use limits::{BRANCH, LEAF, NODE_CELLS};
 use records::NodeNo;
 
-// The node on top of the free order.
-pub fn top(order: &[u32], free: usize) -> NodeNo
-    requires { (0 < free) × (free ≤ length order.now) }
-    ensures { result.0 ≡ get_or order.now (free - 1) 0 }
-{
-    NodeNo(order[free - 1])
-}
-
-// Writes a node whole, with a count of 1.
-pub fn write_node(
-    kinds: &mut [u8],
-    used: &mut [u8],
-    counts: &mut [u32],
-    cells: &mut [u32],
-    n: NodeNo,
-    kind: u8,
-    len: u8,
-    a: [u32; NODE_CELLS],
-)
-    requires { HasPlace (nodes_of kinds.old used.old cells.old) counts.old n.0 }
-    ensures { Written (nodes_of kinds.old used.old cells.old) counts.old n.0 kind len a
-        (nodes_of kinds.new used.new cells.new) counts.new }
-{
-    let i = n.0 as usize;
-    kinds[i] = kind;
-    used[i] = len;
-    counts[i] = 1;
-    cells::put_cells(cells, i, a);
-}
-
-// A node just made, and how many are free after it.
+// What a node is made as. A lent slice holds the kind's byte, as C reads it.
 #[derive(Clone, Copy)]
-pub struct Made {
-    pub node: NodeNo,
-    pub free: usize,
+pub enum NodeKind {
+    Leaf = LEAF as isize,
+    Branch = BRANCH as isize,
 }
 
-// Takes the node on top of the free order and writes it.
-fn make(
-    kinds: &mut [u8],
-    used: &mut [u8],
-    counts: &mut [u32],
-    cells: &mut [u32],
-    order: &[u32],
-    free: usize,
-    kind: u8,
-    len: u8,
-    a: [u32; NODE_CELLS],
-) -> Made
-    requires sized { Sized (store_of kinds.old used.old counts.old cells.old order.now free) }
-    requires free_on_top { FreeOnTop (store_of kinds.old used.old counts.old cells.old order.now free) }
-    ensures { Makes (store_of kinds.old used.old counts.old cells.old order.now free) kind len a
-        (store_of kinds.new used.new counts.new cells.new order.now result.free) result.node.0 }
-{
-    let node = top(order, free);
-    write_node(kinds, used, counts, cells, node, kind, len, a);
-    Made {
-        node: node,
-        free: free - 1,
+impl NodeKind {
+    fn byte(self) -> u8
+        ensures { result ≡ kind_byte self }
+    {
+        self as u8
     }
 }
 
-// Takes the node on top of the free order, and makes a leaf of it.
-pub fn make_leaf(
-    kinds: &mut [u8],
-    used: &mut [u8],
-    counts: &mut [u32],
-    cells: &mut [u32],
-    order: &[u32],
-    free: usize,
-    len: u8,
-    a: [u32; NODE_CELLS],
-) -> Made
-    requires sized { Sized (store_of kinds.old used.old counts.old cells.old order.now free) }
-    requires free_on_top { FreeOnTop (store_of kinds.old used.old counts.old cells.old order.now free) }
-    ensures { Makes (store_of kinds.old used.old counts.old cells.old order.now free) leaf_kind len a
-        (store_of kinds.new used.new counts.new cells.new order.now result.free) result.node.0 }
-{
-    make(kinds, used, counts, cells, order, free, LEAF, len, a)
+// The lent slices, one entry a node in each, but 32 cells; the first `free` of the order are the numbers of free nodes.
+#[derive(Drop)]
+pub struct Store<'a> {
+    pub kinds: &'a mut [u8],
+    pub used: &'a mut [u8],
+    pub counts: &'a mut [u32],
+    pub cells: &'a mut [u32],
+    pub order: &'a mut [u32],
+    pub free: usize,
 }
 
-// Takes the node on top of the free order, and makes a branch of it. The counts of its children are the caller's to raise.
-pub fn make_branch(
-    kinds: &mut [u8],
-    used: &mut [u8],
-    counts: &mut [u32],
-    cells: &mut [u32],
-    order: &[u32],
-    free: usize,
-    len: u8,
-    a: [u32; NODE_CELLS],
-) -> Made
-    requires sized { Sized (store_of kinds.old used.old counts.old cells.old order.now free) }
-    requires free_on_top { FreeOnTop (store_of kinds.old used.old counts.old cells.old order.now free) }
-    ensures { Makes (store_of kinds.old used.old counts.old cells.old order.now free) branch_kind len a
-        (store_of kinds.new used.new counts.new cells.new order.now result.free) result.node.0 }
-{
-    make(kinds, used, counts, cells, order, free, BRANCH, len, a)
+impl Store<'_> {
+    // The free node that is taken next.
+    #[tactic(auto, unfolding(crate::specs::Store::top))]
+    pub fn top(&self) -> NodeNo
+        requires { (0 < self.now.free) × (self.now.free ≤ length self.now.order.now) }
+        ensures { result.0 ≡ top (held self.now) }
+    {
+        NodeNo(self.order[self.free - 1])
+    }
+
+    // The cells of a node, copied out whole.
+    pub fn cells_of(&self, n: NodeNo) -> [u32; NODE_CELLS]
+        requires { node_cells * n.0 + node_cells ≤ length self.now.cells.now }
+        ensures { result ≡ cells_of self.now.cells.now n.0 }
+    {
+        let cells = &*self.cells;
+        cells::cells_of(cells, n.0 as usize)
+    }
+
+    // Writes a node whole, with a count of 1.
+    #[tactic(auto, unfolding(crate::specs::Store::write_node))]
+    pub fn write(&mut self, n: NodeNo, kind: NodeKind, used: u8, cells: [u32; NODE_CELLS])
+        requires { HasPlace (held self.old).nodes (held self.old).counts n.0 }
+        ensures same_slices { SameSlices self.old self.new }
+        ensures written { Written (held self.old).nodes (held self.old).counts n.0 (kind_byte kind) used cells (held self.new).nodes (held self.new).counts }
+        ensures order { self.new.order.now ≡ self.old.order.now }
+        ensures free { self.new.free ≡ self.old.free }
+    {
+        let i = n.0 as usize;
+        self.kinds[i] = kind.byte();
+        self.used[i] = used;
+        self.counts[i] = 1;
+        cells::put_cells(self.cells, i, cells);
+    }
+
+    // Takes the node on top of the free order and writes it. The counts of its children are the caller's to raise.
+    #[tactic(auto, unfolding(crate::specs::Store::make))]
+    pub fn make(&mut self, kind: NodeKind, used: u8, cells: [u32; NODE_CELLS]) -> NodeNo
+        requires sized { Sized (held self.old) }
+        requires free_on_top { FreeOnTop (held self.old) }
+        ensures same_slices { SameSlices self.old self.new }
+        ensures makes { Makes (held self.old) (kind_byte kind) used cells (held self.new) result.0 }
+    {
+        let node = self.top();
+        self.write(node, kind, used, cells);
+        self.free -= 1;
+        node
+    }
 }
 
 // A node gets one link more.
+#[tactic(auto, using(crate::proofs::Raising::room_at), unfolding(crate::specs::Store::raise))]
 pub fn raise(counts: &mut [u32], n: NodeNo)
     requires n_in_bounds { n.0 < length counts.old }
     requires room { Room 1 counts.old }
     ensures { counts.new ≡ raise counts.old n.0 }
 {
-    let i = n.0 as usize;
-    counts[i] += 1;
+    counts[n.0 as usize] += 1;
 }
 
-// The nodes that a holds from `from` up to `to` get one link more each: none where `from` is beyond.
-pub fn raise_range(counts: &mut [u32], a: [u32; NODE_CELLS], from: usize, to: usize)
-    requires to_le_node_cells { to ≤ node_cells }
-    requires all_below { AllBelow (length counts.old) (take to a) }
-    requires room { Room (to - from) counts.old }
-    ensures { counts.new ≡ raises counts.old (slice from to a) }
+// Each of these nodes gets one link more.
+pub fn raise_all(counts: &mut [u32], nodes: &[u32])
+    requires all_below { AllBelow (length counts.old) nodes.now }
+    requires room { Room (length nodes.now) counts.old }
+    ensures { counts.new ≡ raises counts.old nodes.now }
 {
-    let mut i = from;
-    while i < to {
-        raise(counts, NodeNo(a[i]));
-        i += 1;
+    for &n in nodes {
+        raise(counts, NodeNo(n));
     }
 }
 
-// The first `len` nodes of a get one link more each, but the one at `but`, which may be the next.
-pub fn raise_others(counts: &mut [u32], a: [u32; NODE_CELLS], len: usize, but: usize)
-    requires but_le_len { (but ≤ len) × (len ≤ node_cells) }
-    requires all_below { AllBelow (length counts.old) (take len a) }
-    requires room { Room node_cells counts.old }
-    ensures { counts.new ≡ raises counts.old (others a len but) }
+// Each of these nodes but the one at `but`, which may be the next, gets one link more.
+pub fn raise_others(counts: &mut [u32], nodes: &[u32], but: usize)
+    requires but_le_len { but ≤ length nodes.now }
+    requires all_below { AllBelow (length counts.old) nodes.now }
+    requires room { Room (length nodes.now) counts.old }
+    ensures { counts.new ≡ raises counts.old (others nodes.now (length nodes.now) but) }
 {
-    let next = but + 1;
-    raise_range(counts, a, 0, but);
-    raise_range(counts, a, next, len);
+    let next = nodes.len().min(but + 1);
+    raise_all(counts, &nodes[..but]);
+    raise_all(counts, &nodes[next..]);
 }

@@ -1,17 +1,16 @@
 -- Laws of a lowered count, and of the room that the free order has for what it frees.
-use mathlib.Core.Path.{◌≡◌, refl, sym, ap, subst, ◌∙◌}
-use mathlib.Core.List.{List, []}
+use mathlib.Core.Path.{◌≡◌, refl, ap, ◌∙◌}
+use mathlib.Core.List.{List, [], ◌∷◌}
 use Prim.Native.Nat.{ℕ, zero, suc, ◌+◌, ◌-◌, ◌<◌, ◌≤◌}
-use native.Mathlib.Numerals.{sub-one}
+use native.Mathlib.Numerals.{sub-one, add-one}
 use native.Mathlib.Omega.{arith}
 use borrow.Author.Tests.{lt-ltb}
 use lib.Dec.{ltb}
-use lib.ListN.{length, take, get_or, set, length-set}
-use lib.Seq.{slice, slice-cons, slice_empty, get_or-set_same, get_or-set_other}
+use lib.ListN.{length, drop, get_or, set, length-set, drop_of_length-le}
+use lib.Seq.{drop-cons, get_or-set_same, get_or-set_other}
 use Rattle.meaning.specs.Counting.{sum_to, bit, how_many}
 use Rattle.meaning.proofs.Sums.{sum_one}
-use Rattle.meaning.specs.Lent.{Nodes}
-use Rattle.store.specs.Store.{Store, nodes_of}
+use Rattle.store.specs.Store.{Store}
 use Rattle.sweep.specs.Sweep.{lower_from, lower, lowers}
 use Rattle.sweep.specs.Ready.{store_on, live}
 
@@ -75,26 +74,17 @@ lower-room s n l h = go (get_or s.counts n 0) refl
     go (suc zero) e = rw (length-set s.order s.free n) (omega (arith, live-set s.counts n 0 l, has_some (get_or s.counts n 0) (omega arith)))
     go (suc (suc c)) e = omega (arith, live-set s.counts n (suc c) l, has_some (get_or s.counts n 0) (omega arith), has_some (suc c) (omega arith))
 
--- the same of lists, whatever the nodes
-pub lowered-room : (c o c' o' : List ℕ) (f f' n : ℕ) → n < length c → live c + f ≤ length o
-    → ((s : Nodes) → store_on s c' o' f' ≡ lower (store_on s c o f) n) → live c' + f' ≤ length o'
-lowered-room c o c' o' f f' n l h e =
-    let s = nodes_of [] [] [] in
-    subst (λ (t : Store). live t.counts + t.free ≤ length t.order) (sym (e s)) (lower-room (store_on s c o f) n l h)
+pub lowered-room : (s s' : Store) (n : ℕ) → n < length s.counts → live s.counts + s.free ≤ length s.order → s' ≡ lower s n
+    → live s'.counts + s'.free ≤ length s'.order
+lowered-room s s' n l h e = rw e (lower-room s n l h)
 
 -- ---- several nodes
 
-pub lowers-all : (s : Store) (a : List ℕ) (t : ℕ) → lowers s (slice (t - t) t a) ≡ lowers s (take t a)
-lowers-all s a t = let e : t - t ≡ 0 = omega arith in rw e
-
--- one turn of the loop, with `left` of the first t nodes of a left to be lowered
-pub lowers-turn : (s s' s₀ : Store) (a : List ℕ) (t left : ℕ) → 0 < left → left ≤ t → t ≤ length a → s' ≡ lower s (get_or a (t - left) 0)
-    → lowers s (slice (t - left) t a) ≡ s₀ → lowers s' (slice (t - (left - 1)) t a) ≡ s₀
+-- one turn of the loop over a list
+pub lowers-turn : (s s' s₀ : Store) (ns : List ℕ) (i : ℕ) → i < length ns → s' ≡ lower s (get_or ns i 0) → lowers s (drop i ns) ≡ s₀ → lowers s' (drop (i + 1) ns) ≡ s₀
 unfolding lowers
-lowers-turn s s' s₀ a t left h l k e r =
-    let i : t - (left - 1) ≡ suc (t - left) = omega arith in
-    rw (i, e) (rw (slice-cons (t - left) t a 0 (omega arith) k) at r)
+lowers-turn s s' s₀ ns i l e r = rw (e, add-one i) (rw (drop-cons ns i 0) at r)
 
-pub lowers-none : (s : Store) (a : List ℕ) (t left : ℕ) → left ≤ 0 → lowers s (slice (t - left) t a) ≡ s
+pub lowers-end : (s s₀ : Store) (ns : List ℕ) (i : ℕ) → length ns ≤ i → lowers s (drop i ns) ≡ s₀ → s ≡ s₀
 unfolding lowers
-lowers-none s a t left h = let e : t - left ≡ t = omega arith in rw (e, slice_empty t a)
+lowers-end s s₀ ns i l r = rw (drop_of_length-le ns {i = i} l) at r

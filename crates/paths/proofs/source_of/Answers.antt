@@ -1,14 +1,10 @@
-use Rattle.paths.proofs.Steps.{source-there, source-new}
+use Rattle.paths.specs.Paths.{source}
 use Rattle.paths.proofs.source_of.Goals as goal
 
-pub cells_of-a-requires : goal.cells_of-a-requires
-cells_of-a-requires c = (c.requires c.if-there.true).cells
+pub returns-in-Some : goal.returns-in-Some
+unfolding source
+returns-in-Some c = rw (c.in-Some.is, c.cells_of.ensures)
 
-pub bounds-used-i : goal.bounds-used-i
-bounds-used-i c = (c.requires c.if-there.true).used
-
-pub returns-then-there : goal.returns-then-there
-returns-then-there c = λ k. source-there _ _ _ _ c.if-there.true c.cells_of-a.ensures
-
-pub returns : goal.returns
-returns c = λ k. source-new _ _ _ c.if-there.false
+pub returns-in-None : goal.returns-in-None
+unfolding source
+returns-in-None c = rw c.in-None.is

@@ -1,32 +1,21 @@
-use mathlib.Core.Path.{refl, sym, ◌∙◌}
-use Prim.Native.Nat.{◌-◌}
-use Rattle.store.proofs.Raising.{below_at}
-use Rattle.sweep.proofs.Lowering.{lowered-room, lowers-all, lowers-turn, lowers-none}
-use borrow.Author.Rules.{rules}
+use Rattle.std.proofs.Common.{rules}
+use Rattle.store.specs.Lent.{held}
+use Rattle.store.specs.Ready.{AllBelow}
+use Rattle.sweep.proofs.Lowering.{lowered-room, lowers-turn, lowers-end}
 use Rattle.sweep.proofs.lower_all.Goals as goal
 
-pub loop-left-init : goal.loop-left-init
-loop-left-init c = let a = c.args in (search rules, refl, refl, search rules, λ s. lowers-all _ a.a a.len)
+pub lower_one-requires-clause-n_in_bounds : goal.lower_one-requires-clause-n_in_bounds
+unfolding AllBelow
+lower_one-requires-clause-n_in_bounds c = rw c.loop-n.invariant.same_slices.counts.length (c.requires.all_below c.loop-n.n-index c.loop-n-test.true)
 
-pub lower_one-f-requires : goal.lower_one-f-requires
-lower_one-f-requires c =
-    let p = c.loop-left in
-    record { n_in_bounds = rw p.invariant.1 (below_at _ c.args.a c.args.len _ c.requires.len_le_node_cells.1 (search rules) (search rules)); free_in_bounds = p.invariant.3 }
+pub loop-n-preserved : goal.loop-n-preserved
+unfolding AllBelow
+loop-n-preserved c =
+    let p = c.loop-n in record {
+      same_slices = search rules;
+      free_in_bounds = lowered-room (held p.store) _ _ (rw p.invariant.same_slices.counts.length (c.requires.all_below p.n-index c.loop-n-test.true)) p.invariant.free_in_bounds c.lower_one.ensures.lowered;
+      rest = lowers-turn _ _ _ _ p.n-index c.loop-n-test.true c.lower_one.ensures.lowered p.invariant.rest;
+    }
 
-pub loop-left-preserved : goal.loop-left-preserved
-loop-left-preserved c =
-    let p = c.loop-left in
-    let a = c.args.a in
-    let len = c.args.len in (
-      search rules,
-      c.lower_one-f.auto.counts ∙ p.invariant.1,
-      c.lower_one-f.auto.order ∙ p.invariant.2,
-      lowered-room _ _ _ _ _ _ _ (rw p.invariant.1 (below_at _ a len (len - p.left) c.requires.len_le_node_cells.1 (search rules) (search rules))) p.invariant.3 c.lower_one-f.ensures,
-      λ nodes. lowers-turn _ _ _ a len p.left (search rules) (search rules) (search rules) (c.lower_one-f.ensures nodes) (p.invariant.4 nodes),
-    )
-
-pub returns : goal.returns
-returns c =
-    let a = c.args in
-    let p = c.loop-left in
-    λ nodes. sym (lowers-none _ a.a a.len p.left (search rules)) ∙ p.invariant.4 nodes
+pub returns-clause-lowered : goal.returns-clause-lowered
+returns-clause-lowered c = lowers-end _ _ _ c.loop-n.n-index c.loop-n-test.false c.loop-n.invariant.rest

@@ -1,18 +1,22 @@
-use native.Mathlib.Omega.{arith}
+use Rattle.std.proofs.Common.{arith, length-take}
+use Rattle.store.specs.Lent.{held}
 use Rattle.sweep.specs.Sweep.{vacate}
 use Rattle.sweep.proofs.Sweeping.{branch-children, scan-branch, scan-other}
 use Rattle.sweep.proofs.scan_one.Goals as goal
 
-pub overflow_cast-len : goal.overflow_cast-len
-overflow_cast-len c = omega (arith, c.slice_known-6-1.given c.args.n.0)
+pub slice_bounds-children-end : goal.slice_bounds-children-end
+slice_bounds-children-end c = omega (arith, (branch-children (held c.args.store.now) c.args.n.0 _ c.requires.whole c.if-kind-eq-BRANCH.true c.cells_of-children.ensures).0)
 
-pub lower_all-requires : goal.lower_all-requires
-lower_all-requires c = record { len_le_node_cells = branch-children _ c.args.n.0 _ c.requires.whole c.if-kind-eq-BRANCH.true c.cells_of-a.ensures; free_in_bounds = c.requires.whole.room }
+pub slice_bounds-lower_all-end : goal.slice_bounds-lower_all-end
+slice_bounds-lower_all-end c = simp length-take (omega (arith, (branch-children (held c.args.store.now) c.args.n.0 _ c.requires.whole c.if-kind-eq-BRANCH.true c.cells_of-children.ensures).0))
 
-pub returns-then-kind-eq-BRANCH : goal.returns-then-kind-eq-BRANCH
+pub lower_all-requires-clause-all_below : goal.lower_all-requires-clause-all_below
+lower_all-requires-clause-all_below c = (branch-children (held c.args.store.now) c.args.n.0 _ c.requires.whole c.if-kind-eq-BRANCH.true c.cells_of-children.ensures).1
+
+pub returns-then-kind-eq-BRANCH-clause-scanned : goal.returns-then-kind-eq-BRANCH-clause-scanned
 unfolding vacate
-returns-then-kind-eq-BRANCH c = scan-branch _ _ c.args.n.0 _ c.if-kind-eq-BRANCH.true c.cells_of-a.ensures (c.lower_all.ensures _)
+returns-then-kind-eq-BRANCH-clause-scanned c = scan-branch (held c.args.store.now) _ c.args.n.0 _ c.if-kind-eq-BRANCH.true c.cells_of-children.ensures c.lower_all.ensures.lowered
 
-pub returns : goal.returns
+pub returns-else-kind-eq-BRANCH-clause-scanned : goal.returns-else-kind-eq-BRANCH-clause-scanned
 unfolding vacate
-returns c = scan-other _ c.args.n.0 c.if-kind-eq-BRANCH.false
+returns-else-kind-eq-BRANCH-clause-scanned c = scan-other (held c.args.store.now) c.args.n.0 c.if-kind-eq-BRANCH.false
