@@ -1,51 +1,51 @@
 -- What each call answers and makes of the store: refused with nothing changed, or done.
-use Rattle.std.specs.Prelude.{cond, not, ◌&&◌, List, ℕ, ◌-◌, leb, ltb, eqb}
+use Rattle.std.specs.Prelude.{cond, not, ◌&&◌, Result, Ok, Err, ℕ, ◌-◌, leb, ltb, eqb}
 use Rattle.meaning.specs.Limits.{max_bits, max_length, done_number, bad_bits_number, nothing_there_number, full_number, no_nodes_number}
 use Rattle.meaning.specs.Lent.{VersionRecord}
 use Rattle.meaning.specs.Costs.{new_cost, set_cost, push_cost, drop_cost}
-use Rattle.store.specs.Store.{Store, store_of}
+use Rattle.store.specs.Store.{Store}
 use Rattle.paths.specs.Edits as edits
-use Rattle.vector.specs.declared.Edited.{Edited}
-use Rattle.vector.specs.declared.Edited.TheVariants.{Done, BadBits, NothingThere, Full, NoNodes}
+use Rattle.vector.specs.declared.Edit.{Edit}
+use Rattle.vector.specs.declared.Refused.{Refused}
+use Rattle.vector.specs.declared.Refused.TheVariants.{BadBits, NothingThere, Full, NoNodes}
 
 -- ---- answers
 
--- the number of document 01
-abbrev pub number_of : Edited → ℕ
-number_of (Done e) = done_number
-number_of BadBits = bad_bits_number
-number_of NothingThere = nothing_there_number
-number_of Full = full_number
-number_of NoNodes = no_nodes_number
+-- of a call: an edit, or why there is none
+abbrev pub Answer : Type 0
+Answer = Result Edit Refused
 
--- how many nodes are free after a call
-abbrev pub free_after : (free : ℕ) → Edited → ℕ
-free_after f (Done e) = e.free
-free_after f BadBits = f
-free_after f NothingThere = f
-free_after f Full = f
-free_after f NoNodes = f
+-- the numbers of document 01
+abbrev pub refusal_number : Refused → ℕ
+refusal_number BadBits = bad_bits_number
+refusal_number NothingThere = nothing_there_number
+refusal_number Full = full_number
+refusal_number NoNodes = no_nodes_number
 
--- a live version, the fall in free nodes, and what is left of them
-abbrev pub done_with : (root bits length free left : ℕ) → Edited
-done_with n bits m f g = Done (record { version = record { live = 1; root = n; bits = bits; length = m }; copied = f - g; free = g })
+abbrev pub number_of : Answer → ℕ
+number_of (Ok e) = done_number
+number_of (Err r) = refusal_number r
+
+-- a live version, and the fall in free nodes
+abbrev pub edit_with : (root bits length free left : ℕ) → Edit
+edit_with n bits m f g = record { version = record { live = 1; root = n; bits = bits; length = m }; copied = f - g }
 
 -- ---- calls
 
 -- a store and an answer
 pub record Called : Type 0 where
   pub store : Store
-  pub answer : Edited
+  pub answer : Answer
 
-abbrev pub called_of : (kinds used counts cells order : List ℕ) → (free : ℕ) → Edited → Called
-called_of k u n c o f r = record { store = store_of k u n c o (free_after f r); answer = r }
+abbrev pub called_of : Store → Answer → Called
+called_of s r = record { store = s; answer = r }
 
-abbrev pub refused : Store → Edited → Called
-refused s r = record { store = s; answer = r }
+abbrev pub refused : Store → Refused → Called
+refused s r = called_of s (Err r)
 
 -- with so many free before
 abbrev pub done : (free : ℕ) → edits.Edit → Called
-done f e = record { store = e.store; answer = done_with e.version.root e.version.bits e.version.length f e.store.free }
+done f e = called_of e.store (Ok (edit_with e.version.root e.version.bits e.version.length f e.store.free))
 
 -- done if there are free nodes enough for the charge
 abbrev pub charged : Store → (charge : ℕ) → edits.Edit → Called
