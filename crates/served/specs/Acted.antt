@@ -1,12 +1,11 @@
 -- What a call makes of the store and of the one version record that it may change, and what it answers.
-use Rattle.std.specs.Prelude.{ℕ, ◌%◌}
+use Rattle.std.specs.Prelude.{ℕ, ◌%◌, Ok, Err}
 use Rattle.meaning.specs.Lent.{VersionRecord}
 use Rattle.meaning.specs.Frames.{Answer}
 use Rattle.records.specs.Records.{record_of}
 use Rattle.store.specs.Store.{Store}
 use Rattle.vector.specs.Calls.{Called, number_of}
-use Rattle.vector.specs.declared.Edited.{Edited}
-use Rattle.vector.specs.declared.Edited.TheVariants.{Done, BadBits, NothingThere, Full, NoNodes}
+use Rattle.vector.specs.Calls as vector
 use Rattle.served.specs.declared.Served.{Served}
 
 pub record Acted : Type 0 where
@@ -20,19 +19,13 @@ acted_of s r = record { store = s; version = record_of r.version; answer = recor
 
 -- ---- a call of the vector
 
-abbrev pub copied_in : Edited → ℕ
-copied_in (Done e) = e.copied
-copied_in BadBits = 0
-copied_in NothingThere = 0
-copied_in Full = 0
-copied_in NoNodes = 0
+abbrev pub copied_in : vector.Answer → ℕ
+copied_in (Ok e) = e.copied
+copied_in (Err r) = 0
 
-abbrev pub version_after : Edited → (old : VersionRecord) → VersionRecord
-version_after (Done e) old = record_of e.version
-version_after BadBits old = old
-version_after NothingThere old = old
-version_after Full old = old
-version_after NoNodes old = old
+abbrev pub version_after : vector.Answer → (old : VersionRecord) → VersionRecord
+version_after (Ok e) old = record_of e.version
+version_after (Err r) old = old
 
 unfoldable pub edited : (old : VersionRecord) → Called → Acted
 edited old c =

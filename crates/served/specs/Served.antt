@@ -1,13 +1,13 @@
 -- The answer of a frame for each answer of a call: the number of document 01, fresh and value, beside the free nodes and the version record.
 use Rattle.std.specs.declared.cmp.Ordering.{Ordering}
-use Rattle.std.specs.Prelude.{ℕ, ◌%◌, Option, Some, None}
-use Rattle.meaning.specs.Limits.{done_number, bad_bits_number, nothing_there_number, full_number, no_nodes_number}
+use Rattle.std.specs.Prelude.{ℕ, ◌%◌, Option, Some, None, Ok, Err}
+use Rattle.meaning.specs.Limits.{done_number, nothing_there_number}
 use Rattle.meaning.specs.Effects.{signed}
 use Rattle.records.specs.declared.Version.{Version}
 use Rattle.compare.specs.Compare.{sign_of}
 use Rattle.vector.specs.declared.Edit.{Edit}
-use Rattle.vector.specs.declared.Edited.{Edited}
-use Rattle.vector.specs.declared.Edited.TheVariants.{Done, BadBits, NothingThere, Full, NoNodes}
+use Rattle.vector.specs.Calls.{refusal_number}
+use Rattle.vector.specs.Calls as vector
 use Rattle.served.specs.declared.Served.{Served}
 
 abbrev pub served_with : (number fresh value free : ℕ) → Version → Served
@@ -21,15 +21,12 @@ abbrev pub answered_with : (value free : ℕ) → Version → Served
 answered_with x f v = served_with done_number 0 x f v
 
 -- the fall in free nodes is what was copied
-abbrev pub served_done : Edit → Served
-served_done e = served_with done_number (e.copied % 256) 0 e.free e.version
+abbrev pub served_done : Edit → (free : ℕ) → Served
+served_done e f = served_with done_number (e.copied % 256) 0 f e.version
 
-abbrev pub edited_with : Edited → (free : ℕ) → (old : Version) → Served
-edited_with (Done e) f old = served_done e
-edited_with BadBits f old = refused_with bad_bits_number f old
-edited_with NothingThere f old = refused_with nothing_there_number f old
-edited_with Full f old = refused_with full_number f old
-edited_with NoNodes f old = refused_with no_nodes_number f old
+abbrev pub edited_with : vector.Answer → (free : ℕ) → (old : Version) → Served
+edited_with (Ok e) f old = served_done e f
+edited_with (Err r) f old = refused_with (refusal_number r) f old
 
 abbrev pub got_with : Option ℕ → (free : ℕ) → (old : Version) → Served
 got_with (Some x) f old = answered_with x f old

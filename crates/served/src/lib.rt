@@ -2,12 +2,13 @@
 #![tactic(auto)]
 
 ghost use Rattle.std.specs.Prelude.{◌≡◌, ◌%◌};
+ghost use Rattle.vector.specs.Calls.{refusal_number};
 ghost use Rattle.served.specs.Served.{refused_with, answered_with, served_done, edited_with, got_with, ordered_with};
 
 use limits::numbers::{BAD_BITS, DONE, FULL, NO_NODES, NOTHING_THERE};
 use records::Version;
 use std::cmp::Ordering;
-use vector::{Edit, Edited};
+use vector::{Edit, Refused};
 
 // What a frame is answered, how many nodes are free then, and what stands in the one version record that it may change.
 #[derive(Clone, Copy)]
@@ -50,28 +51,36 @@ fn low_byte(n: u32) -> u8
     (n % 256) as u8
 }
 
-fn done(e: Edit) -> Served
-    ensures { result ≡ served_done e }
+fn done(e: Edit, free: usize) -> Served
+    ensures { result ≡ served_done e free }
 {
-    let version = e.version;
     Served {
         number: DONE,
         fresh: low_byte(e.copied),
         value: 0,
-        free: e.free,
-        version: version,
+        free: free,
+        version: e.version,
     }
 }
 
-pub fn of_edited(e: Edited, free: usize, old: Version) -> Served
+fn number_of(r: Refused) -> u8
+    ensures { result ≡ refusal_number r }
+{
+    match r {
+        Refused::BadBits => BAD_BITS,
+        Refused::NothingThere => NOTHING_THERE,
+        Refused::Full => FULL,
+        Refused::NoNodes => NO_NODES,
+    }
+}
+
+// With as many nodes free as the call left.
+pub fn of_edited(e: Result<Edit, Refused>, free: usize, old: Version) -> Served
     ensures { result ≡ edited_with e free old }
 {
     match e {
-        Edited::Done(d) => done(d),
-        Edited::BadBits => refused(BAD_BITS, free, old),
-        Edited::NothingThere => refused(NOTHING_THERE, free, old),
-        Edited::Full => refused(FULL, free, old),
-        Edited::NoNodes => refused(NO_NODES, free, old),
+        Ok(edit) => done(edit, free),
+        Err(r) => refused(number_of(r), free, old),
     }
 }
 
