@@ -17,10 +17,10 @@ use Rattle.records.specs.Records.{record_of}
 use Rattle.records.specs.declared.Version.{Version}
 use Rattle.lookup.specs.Lookup.{got}
 use Rattle.compare.specs.Compare.{ordering}
-use Rattle.store.specs.Store.{Store, raises}
+use Rattle.store.specs.Store.{Store, raise, raises}
 use Rattle.sweep.specs.Sweep as sweep
 use Rattle.sweep.specs.Ready.{Releasable}
-use Rattle.walk.specs.Walk.{Step, stepped, slices, version_of_walk, opened, closed, taken_by}
+use Rattle.walk.specs.Walk.{Step, stepped, version_of_walk, opened, closed, taken_by}
 use Rattle.served.specs.Served.{answered_with, got_with, ordered_with}
 use Rattle.served.specs.Acted.{Acted, acted_of}
 use Rattle.served.specs.declared.Served.{Served}
@@ -111,25 +111,27 @@ module _ (cells : List ℕ) (free : ℕ) (f : Frame) (v w old : Version) (r : Se
 pub root-releases : (s : Store) (v : Version) (w : VersionRecord) → record_of v ≡ w → Releasable s w.root → Releasable s v.root
 root-releases s v w e p = rw (ap (λ (x : VersionRecord). x.root) e) p
 
-pub closes : (s : Store) (ws : WalkSlices) (n : ℕ) (old v : Version) (left : ℕ) (after : Store) (walks_after : WalkSlices) (r : Served) → record_of v ≡ version_of_walk ws.numbers n
-    → record { nodes = after.nodes; counts = after.counts; order = after.order; free = left } ≡ sweep.release s v.root → walks_after ≡ closed ws n → r ≡ answered_with 0 left old
-    → after.free ≡ r.free → Closes s ws n old after walks_after r
-closes s ws n old v left after walks_after r p q h t f =
-    let same : left ≡ r.free = sym (ap (λ (x : Served). x.free) t) in
-    record {
-      store = ap (λ (k : ℕ). record { nodes = after.nodes; counts = after.counts; order = after.order; free = k }) (f ∙ sym same) ∙ q ∙ ap (λ (x : VersionRecord). sweep.release s x.root) p;
-      walks = h;
-      answer = t ∙ ap (λ (k : ℕ). answered_with 0 k old) same;
-    }
+pub opens : (s : Store) (ws : WalkSlices) (n : ℕ) (v : VersionRecord) (old : Version) (counts : List ℕ) (walks_after : WalkSlices) (r : Served) → counts ≡ raise s.counts v.root
+    → walks_after ≡ opened ws n v → r ≡ answered_with 0 s.free old → Opens s ws n v old (record { nodes = s.nodes; counts = counts; order = s.order; free = s.free }) walks_after r
+unfolding raises
+opens s ws n v old counts walks_after r p q h = record { linked = rw p; recorded = q; answer = h }
+
+pub closes : (s : Store) (ws : WalkSlices) (n : ℕ) (old v : Version) (after : Store) (walks_after : WalkSlices) (r : Served) → record_of v ≡ version_of_walk ws.numbers n
+    → after ≡ sweep.release s v.root → walks_after ≡ closed ws n → r ≡ answered_with 0 after.free old → Closes s ws n old after walks_after r
+closes s ws n old v after walks_after r p q h t = record {
+  store = q ∙ ap (λ (x : VersionRecord). sweep.release s x.root) p;
+  walks = h;
+  answer = t ∙ ap (λ (k : ℕ). answered_with 0 k old) (sym (ap (λ (x : Served). x.free) t));
+}
 
 pub steps : (t : Step) (free : ℕ) (old : Version) (walks_after : WalkSlices) (g : Option ℕ) (r : Served) → stepped walks_after g ≡ t → r ≡ got_with g free old → Steps t free old walks_after r
 steps t free old walks_after g r p q = record { walks = ap (λ (x : Step). x.slices) p; answer = q ∙ ap (λ (x : Step). got_with x.answer free old) p }
 
 module _ (s : Store) (ws : WalkSlices) (f : Frame) (v : VersionRecord) (old : Version) (r : Served) where
-  pub open-acts : (counts : List ℕ) (walks_after : WalkSlices) (n : ℕ) → n ≡ opened_place f → f.operation ≡ open_walk_code → Opens s.counts ws s.free n v old counts walks_after r
-      → with_walks (acted_of (record { nodes = s.nodes; counts = counts; order = s.order; free = r.free }) r) walks_after ≡ walk_act s ws f v (record_of old)
-  unfolding walk_act raises
-  open-acts counts walks_after n e t o = rw (eq-eqb f.operation open_walk_code t, o.answer, o.linked, o.recorded, e)
+  pub open-acts : (after : Store) (walks_after : WalkSlices) (n : ℕ) → n ≡ opened_place f → f.operation ≡ open_walk_code → Opens s ws n v old after walks_after r
+      → with_walks (acted_of after r) walks_after ≡ walk_act s ws f v (record_of old)
+  unfolding walk_act
+  open-acts after walks_after n e t o = rw (eq-eqb f.operation open_walk_code t, o.answer, o.linked, o.recorded, e)
 
   pub close-acts : (after : Store) (walks_after : WalkSlices) (n : ℕ) → n ≡ used_place f → f.operation ≢ open_walk_code → f.operation ≡ close_walk_code → Closes s ws n old after walks_after r
       → with_walks (acted_of after r) walks_after ≡ walk_act s ws f v (record_of old)
@@ -141,17 +143,13 @@ module _ (s : Store) (ws : WalkSlices) (f : Frame) (v : VersionRecord) (old : Ve
   got-answers free (Some x) = refl
   got-answers free None = refl
 
-  got-free : (free : ℕ) (g : Option ℕ) → (got_with g free old).free ≡ free
-  got-free free (Some x) = refl
-  got-free free None = refl
-
   pub step-acts : (walks_after : WalkSlices) (n : ℕ) → n ≡ used_place f → f.operation ≢ open_walk_code → f.operation ≢ close_walk_code
       → Steps (taken_by s.nodes.cells s.nodes.used (eqb f.operation next_back_code) ws n) s.free old walks_after r
-      → with_walks (acted_of (record { nodes = s.nodes; counts = s.counts; order = s.order; free = r.free }) r) walks_after ≡ walk_act s ws f v (record_of old)
+      → with_walks (acted_of s r) walks_after ≡ walk_act s ws f v (record_of old)
   unfolding walk_act
   step-acts walks_after n e l m o =
       let g : Option ℕ = (taken_by s.nodes.cells s.nodes.used (eqb f.operation next_back_code) ws n).answer in
-      rw (ne_eqb f.operation open_walk_code l, ne_eqb f.operation close_walk_code m, o.answer, o.walks, got-free s.free g, got-answers s.free g, e)
+      rw (ne_eqb f.operation open_walk_code l, ne_eqb f.operation close_walk_code m, o.answer, o.walks, got-answers s.free g, e)
 
 -- ---- what reads leave as it was
 
@@ -159,7 +157,7 @@ module _ (free : ℕ) (old : Version) where
   abbrev Leaves : Served → Type 0
   Leaves r = (r.free ≡ free) × (r.version ≡ old)
 
-  got-leaves : (g : Option ℕ) → Leaves (got_with g free old)
+  pub got-leaves : (g : Option ℕ) → Leaves (got_with g free old)
   got-leaves (Some x) = (refl, refl)
   got-leaves None = (refl, refl)
 
@@ -190,11 +188,11 @@ module _ (s : Store) (f : Frame) (v w : Version) (old : Version) where
     release-stores a t p = rw (not_edit, eq-eqb f.operation release_code t) p
 
     pub read-stores : (r : Served) → f.operation ≢ release_code → r ≡ read_with s.nodes.cells s.free f v w old
-        → acted_of (record { nodes = s.nodes; counts = s.counts; order = s.order; free = r.free }) r ≡ store_act s f (record_of v) (record_of w) (record_of old)
+        → (r.free ≡ s.free) × (acted_of s r ≡ store_act s f (record_of v) (record_of w) (record_of old))
     unfolding store_act read_act
     read-stores r t p =
         let (q, o) = read-leaves s.free old s.nodes.cells f v w in
-        rw (not_edit, ne_eqb f.operation release_code t, p, q, o)
+        (rw (p, q), rw (not_edit, ne_eqb f.operation release_code t, p, o))
 
 module _ (s : Store) (ws : WalkSlices) (f : Frame) (v w old : VersionRecord) where
   pub act-walks : (a : WalkActed) → is_walk f.operation ≡ true → a ≡ walk_act s ws f v old → a ≡ act s ws f v w old

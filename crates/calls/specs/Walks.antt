@@ -1,11 +1,11 @@
 -- What the operations on walks make of the store and of the walk records.
-use Rattle.std.specs.Prelude.{◌≡◌, ◌≢◌, cond, List, [], ◌∷◌, ℕ, ◌+◌, ◌*◌, ◌%◌, eqb, Option, Some, None}
+use Rattle.std.specs.Prelude.{◌≡◌, ◌≢◌, cond, [], ◌∷◌, ℕ, ◌+◌, ◌*◌, ◌%◌, eqb, Option, Some, None}
 use Rattle.meaning.specs.Limits.{parties, party_walks, open_walk_code, next_back_code, close_walk_code, nothing_there_number}
 use Rattle.meaning.specs.Lent.{VersionRecord, WalkSlices}
 use Rattle.meaning.specs.Frames.{Frame, Answer}
 use Rattle.meaning.specs.Serve.{refused}
 use Rattle.records.specs.declared.Version.{Version}
-use Rattle.store.specs.Store.{Store, raise, raised}
+use Rattle.store.specs.Store.{Store, raised}
 use Rattle.sweep.specs.Ready.{Releasable}
 use Rattle.sweep.specs.Sweep as sweep
 use Rattle.vector.specs.Ready.{Linkable}
@@ -28,10 +28,10 @@ opened_place f = place_of f.party f.destination
 
 -- ---- each operation
 
-pub record Opens (counts : List ℕ) (ws : WalkSlices) (free n : ℕ) (v : VersionRecord) (old : Version) (counts_after : List ℕ) (walks_after : WalkSlices) (r : Served) : Type 0 where
-  pub linked : counts_after ≡ raise counts v.root
+pub record Opens (s : Store) (ws : WalkSlices) (n : ℕ) (v : VersionRecord) (old : Version) (after : Store) (walks_after : WalkSlices) (r : Served) : Type 0 where
+  pub linked : after ≡ raised s (v.root ∷ [])
   pub recorded : walks_after ≡ walk.opened ws n v
-  pub answer : r ≡ answered_with 0 free old
+  pub answer : r ≡ answered_with 0 s.free old
 
 pub record Closes (s : Store) (ws : WalkSlices) (n : ℕ) (old : Version) (after : Store) (walks_after : WalkSlices) (r : Served) : Type 0 where
   pub store : after ≡ sweep.release s (version_of_walk ws.numbers n).root

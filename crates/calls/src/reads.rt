@@ -6,9 +6,10 @@ ghost use Rattle.requests.specs.Requests.{frame_of};
 ghost use Rattle.calls.specs.Reads.{Readable, read_with};
 
 use limits::operations;
-use records::{Supply, Version};
+use records::Version;
 use requests::Frame;
 use served::Served;
+use store::Store;
 
 fn word(n: usize) -> u32
     requires { n ≤ max_nodes }
@@ -17,11 +18,12 @@ fn word(n: usize) -> u32
     n as u32
 }
 
-pub fn read(cells: &[u32], supply: Supply, f: Frame, v: Version, w: Version, old: Version) -> Served
-    requires { Readable (frame_of f) supply.free (record_of v) (record_of w) }
-    ensures { result ≡ read_with cells.now supply.free (frame_of f) v w old }
+pub fn read(store: &Store, f: Frame, v: Version, w: Version, old: Version) -> Served
+    requires { Readable (frame_of f) store.now.free (record_of v) (record_of w) }
+    ensures { result ≡ read_with store.now.cells.now store.now.free (frame_of f) v w old }
 {
-    let free = supply.free;
+    let cells = &*store.cells;
+    let free = store.free;
     if f.operation == operations::GET {
         return served::of_got(lookup::get(cells, v, f.index), free, old);
     }

@@ -2,7 +2,7 @@
 ghost use Rattle.std.specs.Prelude.{◌≡◌, Bool, ◌+◌, ◌*◌, ◌%◌, ◌<◌};
 ghost use Rattle.meaning.specs.Limits.{walk_count};
 ghost use Rattle.records.specs.Records.{record_of};
-ghost use Rattle.store.specs.Store.{store_of};
+ghost use Rattle.store.specs.Lent.{held, SameSlices};
 ghost use Rattle.sweep.specs.Ready.{Releasable};
 ghost use Rattle.vector.specs.Ready.{Linkable};
 ghost use Rattle.walk.specs.Walk.{walks_of, version_of_walk, Walkable, taken_by};
@@ -11,9 +11,10 @@ ghost use Rattle.served.specs.Acted.{acted_of};
 ghost use Rattle.calls.specs.Walks.{place_of, Opens, Closes, Steps, OnWalk, with_walks, walk_act};
 
 use limits::{PARTIES, PARTY_WALKS, operations};
-use records::{NodeNo, Supply, Version};
+use records::{NodeNo, Version};
 use requests::Frame;
 use served::Served;
+use store::Store;
 use walk::Walks;
 
 // Where a walk of a party stands among all; a party or walk that is not there has some place too.
@@ -23,91 +24,63 @@ pub fn walk_place(party: u8, walk: u8) -> u32
     (PARTY_WALKS * (party % PARTIES) + walk % PARTY_WALKS) as u32
 }
 
-fn open(
-    counts: &mut [u32],
-    walks: &mut Walks,
-    supply: Supply,
-    n: u32,
-    v: Version,
-    old: Version,
-) -> Served
-    requires link { Linkable counts.old v.root }
+fn open(store: &mut Store, walks: &mut Walks, n: u32, v: Version, old: Version) -> Served
+    requires link { Linkable store.old.counts.now v.root }
     requires place { n < walk_count }
-    ensures { Opens counts.old (walks_of walks.old) supply.free n (record_of v) old counts.new (walks_of walks.new) result }
+    ensures same_slices { SameSlices store.old store.new }
+    ensures free { result.free ≡ store.new.free }
+    ensures opens { Opens (held store.old) (walks_of walks.old) n (record_of v) old (held store.new) (walks_of walks.new) result }
 {
-    store::raise(counts, NodeNo(v.root));
+    store::raise(store.counts, NodeNo(v.root));
     walks.open(n, v);
-    served::answered(0, supply.free, old)
+    served::answered(0, store.free, old)
 }
 
-fn close(
-    kinds: &mut [u8],
-    used: &mut [u8],
-    counts: &mut [u32],
-    cells: &[u32],
-    order: &mut [u32],
-    walks: &mut Walks,
-    supply: Supply,
-    n: u32,
-    old: Version,
-) -> Served
-    requires release { Releasable (store_of kinds.old used.old counts.old cells.now order.old supply.free) (version_of_walk walks.old.numbers n).root }
+fn close(store: &mut Store, walks: &mut Walks, n: u32, old: Version) -> Served
+    requires release { Releasable (held store.old) (version_of_walk walks.old.numbers n).root }
     requires place { n < walk_count }
-    ensures { Closes (store_of kinds.old used.old counts.old cells.now order.old supply.free)
-        (walks_of walks.old) n old
-        (store_of kinds.new used.new counts.new cells.now order.new result.free)
-        (walks_of walks.new) result }
+    ensures same_slices { SameSlices store.old store.new }
+    ensures free { result.free ≡ store.new.free }
+    ensures closes { Closes (held store.old) (walks_of walks.old) n old (held store.new) (walks_of walks.new) result }
 {
     let v = walks.version(n);
-    let free = supply.free;
-    let left = sweep::release(kinds, used, counts, cells, order, free, NodeNo(v.root));
+    sweep::release(store, NodeNo(v.root));
     walks.close(n);
-    served::answered(0, left, old)
+    served::answered(0, store.free, old)
 }
 
-fn step(
-    cells: &[u32],
-    used: &[u8],
-    walks: &mut Walks,
-    supply: Supply,
-    n: u32,
-    back: bool,
-    old: Version,
-) -> Served
+fn step(store: &Store, walks: &mut Walks, n: u32, back: bool, old: Version) -> Served
     requires { Walkable walks.old.numbers n }
-    ensures { Steps (taken_by cells.now used.now back (walks_of walks.old) n) supply.free old
-        (walks_of walks.new) result }
+    ensures free { result.free ≡ store.now.free }
+    ensures steps { Steps (taken_by store.now.cells.now store.now.used.now back (walks_of walks.old) n) store.now.free old (walks_of walks.new) result }
 {
+    let cells = &*store.cells;
+    let used = &*store.used;
     let g = walks.take(cells, used, n, back);
-    served::of_got(g, supply.free, old)
+    served::of_got(g, store.free, old)
 }
 
 pub fn act_on_walk(
-    kinds: &mut [u8],
-    used: &mut [u8],
-    counts: &mut [u32],
-    cells: &[u32],
-    order: &mut [u32],
+    store: &mut Store,
     walks: &mut Walks,
-    supply: Supply,
     f: Frame,
     v: Version,
     old: Version,
 ) -> Served
-    requires { OnWalk (store_of kinds.old used.old counts.old cells.now order.old supply.free) (walks_of walks.old) (frame_of f) (record_of v) }
-    ensures { with_walks (acted_of (store_of kinds.new used.new counts.new cells.now order.new result.free) result)
-        (walks_of walks.new)
-        ≡ walk_act (store_of kinds.old used.old counts.old cells.now order.old supply.free)
-        (walks_of walks.old) (frame_of f) (record_of v) (record_of old) }
+    requires { OnWalk (held store.old) (walks_of walks.old) (frame_of f) (record_of v) }
+    ensures same_slices { SameSlices store.old store.new }
+    ensures free { result.free ≡ store.new.free }
+    ensures acted { with_walks (acted_of (held store.new) result) (walks_of walks.new)
+        ≡ walk_act (held store.old) (walks_of walks.old) (frame_of f) (record_of v) (record_of old) }
 {
     if f.operation == operations::OPEN_WALK {
         let n = walk_place(f.party, f.destination);
-        return open(counts, walks, supply, n, v, old);
+        return open(store, walks, n, v, old);
     }
     let n = walk_place(f.party, f.slot);
     if f.operation == operations::CLOSE_WALK {
-        return close(kinds, used, counts, cells, order, walks, supply, n, old);
+        return close(store, walks, n, old);
     }
     let back = f.operation == operations::NEXT_BACK;
-    step(cells, used, walks, supply, n, back, old)
+    step(store, walks, n, back, old)
 }

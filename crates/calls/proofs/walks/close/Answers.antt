@@ -1,9 +1,8 @@
-use mathlib.Core.Path.{refl}
 use Rattle.calls.proofs.Acting.{root-releases, closes}
 use Rattle.calls.proofs.walks.close.Goals as goal
 
-pub release-left-requires : goal.release-left-requires
-release-left-requires c = root-releases _ _ _ c.version-v.ensures c.requires.release
+pub release-requires : goal.release-requires
+release-requires c = root-releases _ _ _ c.version-v.ensures c.requires.release
 
-pub returns : goal.returns
-returns c = closes _ _ _ _ _ _ _ _ _ c.version-v.ensures c.release-left.ensures c.close.ensures c.answered.ensures refl
+pub returns-clause-closes : goal.returns-clause-closes
+returns-clause-closes c = closes _ _ _ _ _ _ _ _ c.version-v.ensures c.release.ensures.released c.close.ensures c.answered.ensures
