@@ -18,6 +18,7 @@ use limits::{PARTY_SLOTS, PARTY_WALKS, WALK_NUMBERS, operations};
 use records::{Supply, Version};
 use requests::Frame;
 use served::Served;
+use store::Store;
 use walk::Walks;
 
 // ---- the version records that a frame names
@@ -94,7 +95,13 @@ pub fn serve(
     if number != DONE {
         return served::refused(number, supply.free, old);
     }
-    calls::act(
-        kinds, used, counts, cells, order, walks, supply, f, v, w, old,
-    )
+    let mut store = Store {
+        kinds,
+        used,
+        counts,
+        cells,
+        order,
+        free: supply.free,
+    };
+    calls::act(&mut store, walks, f, v, w, old)
 }

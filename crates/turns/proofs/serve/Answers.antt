@@ -1,4 +1,4 @@
-use mathlib.Core.Path.{sym, ◌∙◌}
+use Rattle.std.proofs.Common.{sym, ◌∙◌, arith}
 use Rattle.records.specs.Records.{record_of}
 use Rattle.requests.specs.Requests.{frame_of}
 use Rattle.turns.proofs.Turning.{entry-is, turn-refuses, turn-acts}
@@ -11,4 +11,7 @@ pub act-requires : goal.act-requires
 act-requires c = c.requires (sym (entry-is _ (frame_of c.args.f) (record_of c.args.v) (record_of c.args.w) _ _ _ _ _ c.giver.ensures c.taker.ensures c.is_open-used_walk.ensures c.is_open-opened_walk.ensures c.refusal-number.ensures) ∙ c.if-number-ne-DONE.false)
 
 pub returns : goal.returns
-returns c = turn-acts _ (frame_of c.args.f) (record_of c.args.v) (record_of c.args.w) _ _ (entry-is _ (frame_of c.args.f) (record_of c.args.v) (record_of c.args.w) _ _ _ _ _ c.giver.ensures c.taker.ensures c.is_open-used_walk.ensures c.is_open-opened_walk.ensures c.refusal-number.ensures) _ _ c.if-number-ne-DONE.false c.act.ensures
+returns c =
+    let told = entry-is _ (frame_of c.args.f) (record_of c.args.v) (record_of c.args.w) _ _ _ _ _ c.giver.ensures c.taker.ensures c.is_open-used_walk.ensures c.is_open-opened_walk.ensures c.refusal-number.ensures in
+    let e = turn-acts _ (frame_of c.args.f) (record_of c.args.v) (record_of c.args.w) _ _ told (record_of c.args.old) _ c.if-number-ne-DONE.false c.act.ensures.acted in
+    grind (arith, e)
