@@ -15,7 +15,7 @@ use Rattle.meaning.specs.Operations.{taker}
 use Rattle.meaning.specs.Serve.{refused}
 use Rattle.paths.specs.Edits.{Edit, share_edit}
 use Rattle.vector.specs.Calls as vector
-use Rattle.vector.specs.declared.Edited.TheVariants.{BadBits, NothingThere, Full, NoNodes}
+use Rattle.vector.specs.declared.Refused.TheVariants.{BadBits, NothingThere, Full, NoNodes}
 use Rattle.frames.specs.Run.{Run, slot_place, walk_place}
 use Rattle.frames.specs.Serve.{Served, answers, fills, fresh_in, respond}
 use Rattle.served.specs.Acted.{edited}

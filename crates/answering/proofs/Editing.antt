@@ -15,7 +15,7 @@ use Rattle.meaning.proofs.Booleans.{or-none}
 use Rattle.paths.specs.Edits.{Edit, new_edit, set_edit, push_edit, drop_edit}
 use Rattle.vector.specs.Calls.{new_call, set_call, push_call, drop_call}
 use Rattle.vector.specs.Calls as vector
-use Rattle.vector.specs.declared.Edited.TheVariants.{BadBits, NothingThere, Full, NoNodes}
+use Rattle.vector.specs.declared.Refused.TheVariants.{BadBits, NothingThere, Full, NoNodes}
 use Rattle.frames.specs.Run.{Run, slot_place, source_in, seen_in, supply_in}
 use Rattle.frames.specs.Serve.{Served, fills, empties, done, fresh_in, respond}
 use Rattle.served.specs.Acted.{edited}
