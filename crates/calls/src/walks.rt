@@ -18,13 +18,13 @@ use store::Store;
 use walk::Walks;
 
 // Where a walk of a party stands among all; a party or walk that is not there has some place too.
-pub fn walk_place(party: u8, walk: u8) -> u32
+pub fn walk_place(party: u8, walk: u8) -> usize
     ensures { (result ≡ place_of party walk) × (result < walk_count) }
 {
-    (PARTY_WALKS * (party % PARTIES) + walk % PARTY_WALKS) as u32
+    (PARTY_WALKS * (party % PARTIES) + walk % PARTY_WALKS) as usize
 }
 
-fn open(store: &mut Store, walks: &mut Walks, n: u32, v: Version, old: Version) -> Served
+fn open(store: &mut Store, walks: &mut Walks, n: usize, v: Version, old: Version) -> Served
     requires link { Linkable store.old.counts.now v.root }
     requires place { n < walk_count }
     ensures same_slices { SameSlices store.old store.new }
@@ -36,7 +36,7 @@ fn open(store: &mut Store, walks: &mut Walks, n: u32, v: Version, old: Version) 
     served::answered(0, store.free, old)
 }
 
-fn close(store: &mut Store, walks: &mut Walks, n: u32, old: Version) -> Served
+fn close(store: &mut Store, walks: &mut Walks, n: usize, old: Version) -> Served
     requires release { Releasable (held store.old) (version_of_walk walks.old.numbers n).root }
     requires place { n < walk_count }
     ensures same_slices { SameSlices store.old store.new }
@@ -49,7 +49,7 @@ fn close(store: &mut Store, walks: &mut Walks, n: u32, old: Version) -> Served
     served::answered(0, store.free, old)
 }
 
-fn step(store: &Store, walks: &mut Walks, n: u32, back: bool, old: Version) -> Served
+fn step(store: &Store, walks: &mut Walks, n: usize, back: bool, old: Version) -> Served
     requires { Walkable walks.old.numbers n }
     ensures free { result.free ≡ store.now.free }
     ensures steps { Steps (taken_by store.now.cells.now store.now.used.now back (walks_of walks.old) n) store.now.free old (walks_of walks.new) result }

@@ -70,7 +70,7 @@ pub fn steps_in_leaf(
     party: u8,
     operation: u8,
     walk: u8,
-    n: u32,
+    n: usize,
     back: bool,
     requests: &[u8],
     room: &mut [u8],

@@ -116,7 +116,7 @@ pub fn steps(
     party: u8,
     operation: u8,
     walk: u8,
-    n: u32,
+    n: usize,
     requests: &[u8],
     room: &mut [u8],
     k: usize,

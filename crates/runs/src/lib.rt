@@ -8,11 +8,10 @@ ghost use Rattle.walk.specs.Walk.{walks_of};
 ghost use Rattle.requests.specs.Requests.{frame_of};
 ghost use Rattle.served.specs.Acted.{acted_of};
 ghost use Rattle.calls.specs.Calls.{with_walks};
-ghost use Rattle.frames.specs.Run.{walk_place};
 ghost use Rattle.turns.specs.Turns.{Turnable, turn};
 ghost use Rattle.runs.specs.Runs.{Placed, source_from, target_from, run_of, progress, CanRun, run_from, Repeatable, Repeats};
 
-use limits::{PARTY_WALKS, VERSIONS, operations};
+use limits::{VERSIONS, operations};
 use records::{Supply, Version};
 use requests::{Answer, Frame};
 use served::Served;
@@ -71,12 +70,6 @@ fn serve(
 
 // ---- frames like the one before
 
-fn walk_place(party: u8, walk: u8) -> u32
-    ensures { result ≡ walk_place party walk }
-{
-    (PARTY_WALKS as u32) * (party as u32) + (walk as u32)
-}
-
 // Answers the frames from the kth on that get from the slot, or step the walk, of the frame before; how far, it says. The version is what stands in that slot.
 fn repeat(
     cells: &[u32],
@@ -100,7 +93,7 @@ fn repeat(
     }
     let open = turns::is_open(walks, f.party as u32, f.slot);
     if ((f.operation == operations::NEXT) | (f.operation == operations::NEXT_BACK)) & open {
-        let n = walk_place(f.party, f.slot);
+        let n = turns::walk_place(f.party as u32, f.slot);
         return repeats::steps(
             cells,
             used,

@@ -1,20 +1,16 @@
 -- The code's verdict and turn are the model's.
 use mathlib.Core.Path.{◌≡◌, ap, ◌∙◌}
 use mathlib.Core.Logic.{◌≢◌}
-use mathlib.Core.Bool.{Bool, true, ◌&&◌}
-use mathlib.Core.List.{List}
-use Prim.Native.Nat.{ℕ, ◌+◌, ◌*◌, ◌<◌}
-use native.Mathlib.Omega.{arith}
-use lib.Dec.{ltb, eqb}
-use lib.ListN.{get_or}
+use mathlib.Core.Bool.{Bool}
+use Prim.Native.Nat.{ℕ}
+use lib.Dec.{eqb}
 use borrow.Author.Tests.{eq-eqb, ne_eqb}
-use Rattle.meaning.specs.Limits.{parties, party_walks, done_number}
+use Rattle.meaning.specs.Limits.{done_number}
 use Rattle.meaning.specs.Lent.{VersionRecord, WalkSlices}
 use Rattle.meaning.specs.Frames.{Frame}
 use Rattle.meaning.specs.Operations.{op_of, giver, taker}
 use Rattle.meaning.specs.Checks.{entry_checks, first_of}
 use Rattle.meaning.specs.Serve.{refused}
-use Rattle.meaning.proofs.Booleans.{both_below}
 use Rattle.records.specs.Records.{record_of}
 use Rattle.records.specs.declared.Version.{Version}
 use Rattle.store.specs.Store.{Store}
@@ -25,13 +21,6 @@ use Rattle.served.specs.declared.Served.{Served}
 use Rattle.calls.specs.Walks.{WalkActed}
 use Rattle.calls.specs.Calls.{with_walks, act}
 use Rattle.turns.specs.Turns.{is_open_at, standing_in, entry_number, turn}
-
--- a walk that is there has its number
-pub walk_inside : (p n : ℕ) → ltb p parties && ltb n party_walks ≡ true → 6 * (2 * p + n) < 96
-walk_inside p n e = let (a, b) = both_below p n parties party_walks e in omega arith
-
-pub walk-opens : (numbers : List ℕ) (p n : ℕ) → ltb p parties && ltb n party_walks ≡ true → eqb (get_or numbers (6 * (2 * p + n)) 0) 1 ≡ is_open_at numbers p n
-walk-opens numbers p n e = rw e (ap (λ (i : ℕ). eqb (get_or numbers i 0) 1) (omega arith))
 
 module _ (ws : WalkSlices) (f : Frame) (v w : VersionRecord) where
   pub entry-is : (g t : ℕ) (a b : Bool) (n : ℕ) → g ≡ giver f → t ≡ taker f → a ≡ is_open_at ws.numbers g f.slot → b ≡ is_open_at ws.numbers t f.destination

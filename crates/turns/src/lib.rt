@@ -10,6 +10,7 @@ ghost use Rattle.walk.specs.Walk.{walks_of};
 ghost use Rattle.requests.specs.Requests.{frame_of};
 ghost use Rattle.served.specs.Acted.{acted_of};
 ghost use Rattle.calls.specs.Calls.{with_walks};
+ghost use Rattle.frames.specs.Run.{walk_place};
 ghost use Rattle.turns.specs.Turns.{place_of, changed_in, is_open_at, Turnable, turn};
 
 use limits::numbers::DONE;
@@ -58,16 +59,19 @@ pub fn changed_place(f: Frame, source: usize, target: usize) -> usize
 
 // ---- serving
 
+// Where a walk of a party stands among all.
+pub fn walk_place(party: u32, walk: u8) -> usize
+    ensures { result ≡ walk_place party walk }
+{
+    (PARTY_WALKS as usize) * (party as usize) + (walk as usize)
+}
+
 // A walk that is not there is closed.
 pub fn is_open(walks: &Walks, party: u32, walk: u8) -> bool
     ensures { result ≡ is_open_at walks.now.numbers party walk }
 {
     let there = (party < PARTIES) & (walk < PARTY_WALKS);
-    if there {
-        let n = (PARTY_WALKS as usize) * (party as usize) + (walk as usize);
-        return walks.numbers[WALK_NUMBERS * n] == 1;
-    }
-    false
+    there && walks.numbers[WALK_NUMBERS * walk_place(party, walk)] == 1
 }
 
 pub fn serve(

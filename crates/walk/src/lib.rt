@@ -21,11 +21,11 @@ pub struct Walks {
 // ---- opening and closing
 
 // The numbers of walk n: a version of which nothing is taken.
-fn store(numbers: &mut [u32; ALL_NUMBERS], n: u32, v: Version)
+fn store(numbers: &mut [u32; ALL_NUMBERS], n: usize, v: Version)
     requires { n < walk_count }
     ensures { numbers.new ≡ stored numbers.old n (record_of v) }
 {
-    let at = WALK_NUMBERS * (n as usize);
+    let at = WALK_NUMBERS * n;
     numbers[at] = v.live;
     numbers[at + 1] = v.root;
     numbers[at + 2] = v.bits;
@@ -73,28 +73,28 @@ impl Walks {
     }
 
     // Of a closed walk: its levels are 0 already.
-    pub fn open(&mut self, n: u32, v: Version)
+    pub fn open(&mut self, n: usize, v: Version)
         requires { n < walk_count }
         ensures { walks_of self.new ≡ opened (walks_of self.old) n (record_of v) }
     {
         store(&mut self.numbers, n, Version { live: 1, ..v });
     }
 
-    pub fn close(&mut self, n: u32)
+    pub fn close(&mut self, n: usize)
         requires { n < walk_count }
         ensures { walks_of self.new ≡ closed (walks_of self.old) n }
     {
         store(&mut self.numbers, n, Version::empty());
-        clear(&mut self.levels, 2 * WALK_LEVELS * (n as usize));
+        clear(&mut self.levels, 2 * WALK_LEVELS * n);
     }
 
     // ---- taking
 
-    pub fn version(&self, n: u32) -> Version
+    pub fn version(&self, n: usize) -> Version
         requires { n < walk_count }
         ensures { record_of result ≡ version_of_walk self.now.numbers n }
     {
-        let at = WALK_NUMBERS * (n as usize);
+        let at = WALK_NUMBERS * n;
         Version {
             live: self.numbers[at],
             root: self.numbers[at + 1],
@@ -105,16 +105,16 @@ impl Walks {
 
     // All elements are taken, from one end and the other.
     #[tactic(auto, unfolding(crate::specs::Walk::is_ended))]
-    fn ended(&self, n: u32) -> bool
+    fn ended(&self, n: usize) -> bool
         requires { Walkable self.now.numbers n }
         ensures { result ≡ is_ended self.now.numbers n }
     {
-        let at = WALK_NUMBERS * (n as usize);
+        let at = WALK_NUMBERS * n;
         self.numbers[at + 4] + self.numbers[at + 5] == self.numbers[at + 3]
     }
 
     // The element that comes next from an end; of an ended walk nothing, and no stack is stored.
-    pub fn take(&mut self, cells: &[u32], used: &[u8], n: u32, back: bool) -> Option<u32>
+    pub fn take(&mut self, cells: &[u32], used: &[u8], n: usize, back: bool) -> Option<u32>
         requires { Walkable self.old.numbers n }
         ensures { stepped (walks_of self.new) result ≡ taken_by cells.now used.now back (walks_of self.old) n }
     {
@@ -123,8 +123,8 @@ impl Walks {
         }
         let v = self.version(n);
         let s = side(back);
-        let at = WALK_NUMBERS * (n as usize) + 4 + s;
-        let k = WALK_LEVELS * (2 * (n as usize) + s);
+        let at = WALK_NUMBERS * n + 4 + s;
+        let k = WALK_LEVELS * (2 * n + s);
         let taken = self.numbers[at];
         let x = levels::take(&mut self.levels, cells, used, back, k, taken, v);
         self.numbers[at] = taken + 1;
@@ -134,13 +134,13 @@ impl Walks {
     // ---- so many at once
 
     // How many elements are not taken yet; none where the stack of that end does not stand yet.
-    fn left(&self, n: u32, s: usize) -> u32
+    fn left(&self, n: usize, s: usize) -> u32
         requires walk { Walkable self.now.numbers n }
         requires side { s ≤ 1 }
         ensures { (number_at self.now.numbers n 4 + number_at self.now.numbers n 5 + result ≤ number_at self.now.numbers n 3)
             × (0 < result → 0 < number_at self.now.numbers n (4 + s)) }
     {
-        let at = WALK_NUMBERS * (n as usize);
+        let at = WALK_NUMBERS * n;
         if self.numbers[at + (4 + s)] == 0 {
             return 0;
         }
@@ -148,12 +148,12 @@ impl Walks {
     }
 
     // How far the next elements from an end are cells of one leaf, if any is.
-    pub fn stretch_in_leaf(&self, used: &[u8], n: u32, back: bool) -> Option<Stretch>
+    pub fn stretch_in_leaf(&self, used: &[u8], n: usize, back: bool) -> Option<Stretch>
         requires { Walkable self.now.numbers n }
         ensures { IfSome result (λ s. (0 < s.most) × Staying used.now back (walks_of self.now) n s.node s.place s.most) }
     {
         let s = side(back);
-        let k = WALK_LEVELS * (2 * (n as usize) + s);
+        let k = WALK_LEVELS * (2 * n + s);
         let most = self.levels.staying(used, back, k).min(self.left(n, s));
         if most == 0 {
             return None;
@@ -166,15 +166,14 @@ impl Walks {
     }
 
     // Takes m elements that are cells of one leaf.
-    pub fn pass_on(&mut self, n: u32, back: bool, m: u32)
+    pub fn pass_on(&mut self, n: usize, back: bool, m: u32)
         requires { Passable back self.old.numbers self.old.levels.indices n m }
         ensures { walks_of self.new ≡ passed_on back (walks_of self.old) n m }
     {
         let s = side(back);
-        let at = WALK_NUMBERS * (n as usize) + 4 + s;
+        let at = WALK_NUMBERS * n + 4 + s;
         let taken = self.numbers[at] + m;
         self.numbers[at] = taken;
-        self.levels
-            .pass(back, WALK_LEVELS * (2 * (n as usize) + s), m);
+        self.levels.pass(back, WALK_LEVELS * (2 * n + s), m);
     }
 }
