@@ -15,7 +15,7 @@ use limits::numbers::NOT_A_FRAME;
 // Kept as the length of any longer line.
 const TOO_LONG: usize = LINE_SIZE + 1;
 
-// The marks of lines.
+// The marks of lines, as bytes and no enum: `print_answers` takes any other byte for a line that is no frame, and a narrower type would ask more.
 pub const FRAME: u8 = 1;
 
 pub const OTHER: u8 = 0;
@@ -48,7 +48,7 @@ pub fn print_answers(marks: &[u8], answers: &[u8], out: &mut [u8]) -> usize
     PRINTED_SIZE * marks.len()
 }
 
-// A line begun: its bytes, as far as a frame has so many, and its length.
+// A line begun: its bytes, as far as a frame has so many, and its length, which stands beside them since nothing is allocated.
 #[derive(Clone, Copy)]
 pub struct Begun {
     pub digits: [u8; LINE_SIZE],
@@ -108,7 +108,7 @@ fn frame_at(piece: &[u8], at: usize) -> Option<&[u8]>
     None
 }
 
-// The lines that ended in a piece: a mark for each, and the bytes of the frames among them one after the other.
+// The lines that ended in a piece: a mark for each, and the bytes of the frames among them one after the other, in room that the caller lends.
 #[derive(Drop)]
 struct Ended<'a> {
     marks: &'a mut [u8],
@@ -216,6 +216,7 @@ pub fn read_lines(
         frames: 0,
     };
     let mut at = 0;
+    // No `for`: a step is a byte or a whole frame.
     while at < piece.len() {
         at = ended.read_on(piece, at, begun);
     }
