@@ -82,7 +82,7 @@ fn first_child(store: &Store, root: NodeNo) -> NodeNo
     NodeNo(lookup::cell_at(cells, root, 0))
 }
 
-// The root's first child takes its place, shared. Nothing else of the store matters.
+// The root's first child takes its place, shared.
 pub fn compress_root(store: &mut Store, root: NodeNo) -> NodeNo
     requires { (get_or (cells_of store.old.cells.now root.0) 0 0 < length store.old.counts.now) × Room 1 store.old.counts.now }
     ensures same_slices { SameSlices store.old store.new }

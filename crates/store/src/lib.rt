@@ -57,17 +57,17 @@ impl Store<'_> {
         cells::cells_of(cells, n.0 as usize)
     }
 
-    // Writes a node whole, with a count of 1.
+    // Writes a node whole, with a count of 1. Its kind may be any byte, as in what is lent.
     #[tactic(auto, unfolding(crate::specs::Store::write_node))]
-    pub fn write(&mut self, n: NodeNo, kind: NodeKind, used: u8, cells: [u32; NODE_CELLS])
+    pub fn write(&mut self, n: NodeNo, kind: u8, used: u8, cells: [u32; NODE_CELLS])
         requires { HasPlace (held self.old).nodes (held self.old).counts n.0 }
         ensures same_slices { SameSlices self.old self.new }
-        ensures written { Written (held self.old).nodes (held self.old).counts n.0 (kind_byte kind) used cells (held self.new).nodes (held self.new).counts }
+        ensures written { Written (held self.old).nodes (held self.old).counts n.0 kind used cells (held self.new).nodes (held self.new).counts }
         ensures order { self.new.order.now ≡ self.old.order.now }
         ensures free { self.new.free ≡ self.old.free }
     {
         let i = n.0 as usize;
-        self.kinds[i] = kind.byte();
+        self.kinds[i] = kind;
         self.used[i] = used;
         self.counts[i] = 1;
         cells::put_cells(self.cells, i, cells);
@@ -82,7 +82,7 @@ impl Store<'_> {
         ensures makes { Makes (held self.old) (kind_byte kind) used cells (held self.new) result.0 }
     {
         let node = self.top();
-        self.write(node, kind, used, cells);
+        self.write(node, kind.byte(), used, cells);
         self.free -= 1;
         node
     }

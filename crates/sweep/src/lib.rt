@@ -49,6 +49,7 @@ pub fn scan_one(store: &mut Store, n: NodeNo)
     ensures scanned { held store.new ≡ scan (held store.old) n.0 }
 {
     let i = n.0 as usize;
+    // A byte as it was lent, which may be no kind, and FREE is no kind that a node is made as: so no `NodeKind`.
     let kind = store.kinds[i];
     let len = store.used[i];
     store.kinds[i] = FREE;
