@@ -10,6 +10,7 @@ const HEIGHTS: u32 = 32;
 
 const SIZES: u32 = 2097152;
 
+#[tactic(auto, unfolding(crate::specs::Descent::code))]
 pub fn code_of(bits: u32, height: u32, size: u32) -> u32
     requires { (bits ≤ max_bits) × (height < walk_levels) × (size ≤ max_length) }
     ensures { result ≡ code bits height size }
