@@ -1,31 +1,22 @@
--- The numbers of a descent: capacities, products that a word holds, and what is left one level lower.
+-- The numbers of a descent: capacities, and how many children a branch may have.
 use mathlib.Core.Path.{◌≡◌, refl, sym, ◌∙◌}
 use mathlib.Core.Bool.{true, ◌&&◌}
-use Prim.Native.Nat.{ℕ, ◌+◌, ◌-◌, ◌*◌, ◌^◌, ◌%◌, ◌≤◌, ◌<◌, min}
-use native.Mathlib.Nat.{mul-le-mul, mul-le-mul_left, mul-le-mul_right}
+use Prim.Native.Nat.{ℕ, ◌+◌, ◌*◌, ◌^◌, ◌%◌, ◌≤◌, ◌<◌}
 use native.Mathlib.Omega.{arith}
 use lib.Dec.{eqb, leb, ltb}
 use lib.Pow.{pow_mono}
 use borrow.Author.Tests.{leb-true}
-use Rattle.meaning.specs.Limits.{branch_kind, leaf_kind, node_cells, max_bits, length_bits, max_length, walk_levels, word_width}
+use Rattle.meaning.specs.Limits.{branch_kind, node_cells, max_bits, length_bits, max_length, word_width}
 use Rattle.meaning.specs.Shape.{degree}
 use Rattle.meaning.proofs.Booleans.{both_true}
 use Rattle.shape.proofs.Powers.{degree-most, degree-power, one-shifts}
-use Rattle.audit_model.specs.Descent.{leaf_ok, branch_ok}
-use Rattle.audit_descent.specs.Descendable.{Descendable}
+use Rattle.audit_model.specs.Descent.{branch_ok}
 
 pub capacity-is : (b h : ℕ) → h * b < length_bits → let r = (1 * 2 ^ (h * b)) % 2 ^ word_width in (r ≡ degree b ^ h) × (r ≤ max_length)
 capacity-is b h l =
     let e = one-shifts (h * b) (omega arith) in
     let most : 2 ^ (h * b) ≤ 2 ^ length_bits = pow_mono {i = h * b} {j = length_bits} (omega arith) in
     (e ∙ sym (degree-power b h), omega arith)
-
-pub product : (a b x y : ℕ) → a ≤ x → b ≤ y → a * b ≤ x * y
-product a b x y l k = mul-le-mul l k
-
-pub leaf-tested : (k u b m d : ℕ) → d ≡ degree b → ((eqb k leaf_kind && eqb u m) && leb m d) ≡ leaf_ok k u b m
-unfolding leaf_ok
-leaf-tested k u b m d e = rw e
 
 branch-few : (k u b c m : ℕ) → b ≤ max_bits → branch_ok k u b c m ≡ true → u ≤ node_cells
 unfolding branch_ok
@@ -39,12 +30,3 @@ pub branch-tested : (k u b c m d : ℕ) → b ≤ max_bits → d ≡ degree b
     → let r = ((eqb k branch_kind && leb u d) && leb m (u * c)) && ltb (u * c) (m + c) in (r ≡ branch_ok k u b c m) × (r ≡ true → u ≤ node_cells)
 unfolding branch_ok
 branch-tested k u b c m d l e = rw e (refl, λ q. branch-few k u b c m l q)
-
-pub ready-low : (b h m : ℕ) → Descendable b h m → h < walk_levels
-ready-low b h m r = omega (arith, r.shift, mul-le-mul_left h r.bits.least)
-
--- a child's descent is ready where its parent's is
-pub ready-below : (b h m c i m' : ℕ) → Descendable b h m → m' ≡ min c (m - i * c) → Descendable b (h - 1) m'
-ready-below b h m c i m' r q =
-    let below : (h - 1) * b ≤ h * b = mul-le-mul_right b (omega arith) in
-    record { bits = r.bits; shift = omega (arith, r.shift); size = omega (arith, r.size) }

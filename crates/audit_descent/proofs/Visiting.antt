@@ -3,39 +3,19 @@ use mathlib.Core.Path.{◌≡◌, refl, sym, ap, ◌∙◌}
 use mathlib.Core.Logic.{◌≢◌}
 use mathlib.Core.Bool.{true, false}
 use mathlib.Core.List.{List}
-use Prim.Native.Nat.{ℕ, zero, suc, ◌-◌, ◌*◌, ◌^◌, ◌≤◌, ◌<◌, min}
-use native.Mathlib.Nat.{lt_irrefl}
+use Prim.Native.Nat.{ℕ, zero, suc, ◌-◌, ◌*◌, ◌^◌, ◌<◌, min}
 use native.Mathlib.Numerals.{sub-one}
-use native.Mathlib.Omega.{arith}
 use lib.ListN.{length, get_or, set}
-use borrow.Author.Tests.{le-ltb, lt-ltb, eq-eqb, ne_eqb}
+use borrow.Author.Tests.{lt-ltb, ne_eqb}
 use Rattle.meaning.specs.Lent.{Nodes, kind_of, used_of, cell_of}
 use Rattle.meaning.specs.Shape.{degree}
-use Rattle.audit_model.specs.Descent.{code, Answer, answer, pick, go_on, and_then, through, marked, leaf_ok, branch_ok, known, child, visit}
+use Rattle.audit_model.specs.Descent.{code, Answer, answer, pick, go_on, and_then, through, marked, branch_ok, known, child, visit}
 use Rattle.audit_model.proofs.Steps.{pick_yes, pick_no}
 
 module _ (s : Nodes) (b m n : ℕ) (t : List ℕ) where
-  known_out : (x : ℕ) (a : Answer) → length s.kinds ≤ n → answer false t ≡ known s x n t a
-  unfolding known
-  known_out x a l = pick_no _ _ _ (le-ltb n (length s.kinds) l)
-
-  known-again : (x : ℕ) (a : Answer) → n < length s.kinds → get_or t n 0 ≡ x → answer true t ≡ known s x n t a
-  unfolding known
-  known-again x a l e = pick_yes _ _ _ (eq-eqb (get_or t n 0) x e) ∙ pick_yes _ _ _ (lt-ltb n (length s.kinds) l)
-
   known-new : (x : ℕ) (a : Answer) → n < length s.kinds → get_or t n 0 ≢ x → a ≡ known s x n t a
   unfolding known
   known-new x a l f = pick_no _ _ _ (ne_eqb (get_or t n 0) x f) ∙ pick_yes _ _ _ (lt-ltb n (length s.kinds) l)
-
-  pub visit-out : (h : ℕ) → length s.kinds ≤ n → answer false t ≡ visit s b h m n t
-  unfolding visit
-  visit-out zero l = known_out _ _ l
-  visit-out (suc h) l = known_out _ _ l
-
-  pub visit-again : (h x old : ℕ) → n < length s.kinds → x ≡ code b h m → old ≡ get_or t n 0 → old ≡ x → answer true t ≡ visit s b h m n t
-  unfolding visit
-  visit-again zero x old l q p e = known-again _ _ l (sym p ∙ e ∙ q)
-  visit-again (suc h) x old l q p e = known-again _ _ l (sym p ∙ e ∙ q)
 
   -- what holds of a node that is not known yet
   pub record New (h x k u : ℕ) : Type 0 where
@@ -45,27 +25,12 @@ module _ (s : Nodes) (b m n : ℕ) (t : List ℕ) where
     pub kind : k ≡ kind_of s n
     pub used : u ≡ used_of s n
 
-  visit-low : (h x k u : ℕ) → New h x k u → h ≡ 0 → pick (leaf_ok k u b m) (marked n x t) (answer false t) ≡ visit s b h m n t
-  unfolding visit
-  visit-low zero x k u w e = rw (w.kind, w.used, w.mark) (known-new (code b 0 m) _ w.inside (λ d. w.unmarked (d ∙ sym w.mark)))
-  visit-low (suc h) x k u w e = absurd (lt_irrefl zero (omega arith))
-
-  pub visit-leaf : (h x k u : ℕ) (t' : List ℕ) → New h x k u → h ≡ 0 → true ≡ leaf_ok k u b m → t' ≡ set t n x → answer true t' ≡ visit s b h m n t
-  unfolding marked
-  visit-leaf h x k u t' w e p q = ap (answer true) q ∙ pick_yes _ _ _ (sym p) ∙ visit-low h x k u w e
-
-  pub visit-no_leaf : (h x k u : ℕ) → New h x k u → h ≡ 0 → false ≡ leaf_ok k u b m → answer false t ≡ visit s b h m n t
-  visit-no_leaf h x k u w e p = pick_no _ _ _ (sym p) ∙ visit-low h x k u w e
-
   visit-high : (h x c k u : ℕ) → New h x k u → h ≢ 0 → c ≡ degree b ^ h
       → pick (branch_ok k u b c m) (and_then (through u (child (visit s b (h - 1)) s c m n) t) (marked n x)) (answer false t) ≡ visit s b h m n t
   unfolding visit
   visit-high zero x c k u w e q = absurd (e refl)
   visit-high (suc h) x c k u w e q =
       rw (w.kind, w.used, w.mark, q, sub-one) (known-new (code b (suc h) m) _ w.inside (λ d. w.unmarked (d ∙ sym w.mark)))
-
-  pub visit-no_branch : (h x c k u : ℕ) → New h x k u → h ≢ 0 → c ≡ degree b ^ h → false ≡ branch_ok k u b c m → answer false t ≡ visit s b h m n t
-  visit-no_branch h x c k u w e q p = pick_no _ _ _ (sym p) ∙ visit-high h x c k u w e q
 
   visit-children : (h x c k u : ℕ) (a : Answer) → New h x k u → h ≢ 0 → c ≡ degree b ^ h → true ≡ branch_ok k u b c m
       → a ≡ through u (child (visit s b (h - 1)) s c m n) t → and_then a (marked n x) ≡ visit s b h m n t

@@ -49,6 +49,7 @@ impl Tree {
     }
 
     // Whether a node of that kind and used number is a leaf of that size.
+    #[tactic(auto, unfolding(audit_model::specs::Descent::leaf_ok))]
     pub fn is_leaf(self, kind: u8, used: u8) -> bool
         ensures { result ≡ leaf_ok kind used self.bits self.size }
     {
@@ -72,6 +73,7 @@ impl Tree {
 }
 
 // Whether a node is that tree; what is found right is marked, after its children. The slices go by reference: a copy for each node is slower.
+#[tactic(auto, unfolding(audit_model::specs::Descent::visit, audit_model::specs::Descent::known, audit_model::specs::Descent::pick, audit_model::specs::Descent::go_on, audit_model::specs::Descent::marked))]
 pub fn descend(nodes: &Nodes, codes: &mut [u32], tree: Tree, node: u32) -> bool
     ensures { answer result codes.new ≡ visit (nodes_in nodes.now) tree.bits tree.height tree.size node codes.old }
 {

@@ -15,6 +15,7 @@ use limits::{MAX_BITS, VERSIONS, WALKS};
 use records::Version;
 
 // An empty record is 0; a live one has legal numbers, and its root is descended into.
+#[tactic(auto, unfolding(audit_model::specs::Records::version_step, audit_model::specs::Descent::pick, audit_model::specs::Records::empty_ok, audit_model::specs::Records::legal_ok))]
 pub fn version_ok(nodes: Nodes, codes: &mut [u32], v: Version) -> bool
     ensures { answer result codes.new ≡ version_step (nodes_in nodes.entry) (record_of v) codes.old }
 {
@@ -46,6 +47,7 @@ pub fn versions_ok(nodes: Nodes, codes: &mut [u32], versions: &[Version; VERSION
 }
 
 // Its version is a record like a slot's, and the rest agrees with it.
+#[tactic(auto, unfolding(audit_model::specs::Records::walk_step, audit_model::specs::Descent::go_on, meaning::specs::Lent::walk_record))]
 pub fn walk_ok(nodes: Nodes, walks: Walks, codes: &mut [u32], n: usize) -> bool
     requires { n < walk_count }
     ensures { answer result codes.new ≡ walk_step (nodes_in nodes.entry) (walks_in walks.entry) n codes.old }
@@ -69,6 +71,7 @@ pub fn walks_ok(nodes: Nodes, walks: Walks, codes: &mut [u32]) -> bool
 }
 
 // All of them.
+#[tactic(auto, unfolding(audit_model::specs::Audit::records_ok, audit_model::specs::Audit::versions_ok, audit_model::specs::Audit::walks_ok, audit_model::specs::Descent::go_on))]
 pub fn records_ok(lent: Lent, codes: &mut [u32]) -> bool
     ensures { answer result codes.new ≡ records_ok (lent_in lent.entry) codes.old }
 {

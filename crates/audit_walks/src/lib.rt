@@ -28,6 +28,7 @@ pub fn blank_from(walks: Walks, stack: usize, start: usize) -> bool
 }
 
 // Whether the levels of a stack are the way from a root to the element at an index.
+#[tactic(auto, unfolding(audit_model::specs::Records::way_ok, audit_model::specs::Records::level_is))]
 pub fn way_ok(
     nodes: Nodes,
     walks: Walks,
@@ -54,6 +55,7 @@ pub fn way_ok(
 }
 
 // Whether a stack is right: none before anything is taken or when all is, and else the way to what comes next.
+#[tactic(auto, unfolding(audit_model::specs::Records::stack_ok))]
 pub fn stack_ok(
     nodes: Nodes,
     walks: Walks,
@@ -77,6 +79,7 @@ pub fn stack_ok(
 }
 
 // Whether a walk of a version that was found right agrees with its taken numbers from each end.
+#[tactic(auto, unfolding(audit_model::specs::Records::walk_agrees, meaning::specs::Lent::walk_record))]
 pub fn walk_agrees(nodes: Nodes, walks: Walks, n: usize, v: Version) -> bool
     requires { (n < walk_count) × (record_of v ≡ walk_version walks.numbers.now n) × Found (record_of v) }
     ensures { result ≡ walk_agrees nodes.entry.cells.now (walks_in walks.entry) n }

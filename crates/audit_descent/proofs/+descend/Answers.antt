@@ -1,32 +1,8 @@
 use mathlib.Core.Path.{◌∙◌}
 use Rattle.audit_model.proofs.Steps.{through-start, through-next, through-fails, through-ends}
 use Rattle.audit_reads.specs.Slices.{nodes_in}
-use Rattle.audit_descent.proofs.Visiting.{visit-out, visit-again, visit-leaf, visit-no_leaf, visit-no_branch, visit-fails, visit-marks, visit-child}
+use Rattle.audit_descent.proofs.Visiting.{visit-fails, visit-marks, visit-child}
 use Rattle.audit_descent.proofs.+descend.Goals as goal
-
-pub returns-then-n-nodes : goal.returns-then-n-nodes
-returns-then-n-nodes t c = visit-out (nodes_in c.args.nodes.now) _ _ _ _ c.args.tree.height c.if-n-nodes.true
-
-pub returns-then-found-mark : goal.returns-then-found-mark
-returns-then-found-mark t c = visit-again (nodes_in c.args.nodes.now) _ _ _ _ c.args.tree.height _ _ c.if-n-nodes.false c.mark-mark.ensures c.at-found.ensures c.if-found-mark.true
-
-pub returns-then-is_leaf : goal.returns-then-is_leaf
-returns-then-is_leaf t c =
-    visit-leaf (nodes_in c.args.nodes.now) _ _ _ _ c.args.tree.height _ _ _ _
-    (record { inside = c.if-n-nodes.false; mark = c.mark-mark.ensures; unmarked = λ e. c.if-found-mark.false (c.at-found.ensures ∙ e); kind = c.kind-kind.ensures; used = c.used-used.ensures })
-    c.if-tree-eq0.true c.if-is_leaf.ensures c.put_at.ensures
-
-pub returns-then-tree-eq0 : goal.returns-then-tree-eq0
-returns-then-tree-eq0 t c =
-    visit-no_leaf (nodes_in c.args.nodes.now) _ _ _ _ c.args.tree.height _ _ _
-    (record { inside = c.if-n-nodes.false; mark = c.mark-mark.ensures; unmarked = λ e. c.if-found-mark.false (c.at-found.ensures ∙ e); kind = c.kind-kind.ensures; used = c.used-used.ensures })
-    c.if-tree-eq0.true c.if-is_leaf.ensures
-
-pub returns-then-not-is_branch : goal.returns-then-not-is_branch
-returns-then-not-is_branch t c =
-    visit-no_branch (nodes_in c.args.nodes.now) _ _ _ _ c.args.tree.height _ _ _ _
-    (record { inside = c.if-n-nodes.false; mark = c.mark-mark.ensures; unmarked = λ e. c.if-found-mark.false (c.at-found.ensures ∙ e); kind = c.kind-kind.ensures; used = c.used-used.ensures })
-    c.if-tree-eq0.false c.capacity-c.ensures.0 c.if-not-is_branch.ensures.0
 
 pub loop-i-init : goal.loop-i-init
 loop-i-init t c = through-start _ _
