@@ -4,18 +4,23 @@ use mathlib.Core.Bool.{Bool, true, false, cond, ◌&&◌}
 use mathlib.Core.List.{List}
 use Prim.Native.Nat.{ℕ}
 use native.Mathlib.Omega.{arith}
-use lib.ListN.{get_or, replicate}
+use lib.Dec.{eqb}
+use lib.ListN.{get_or, length, length-map, replicate}
+use Rattle.std.specs.Bool.{then_some}
+use Rattle.std.specs.Option.{is_some, unwrap_or}
 use Rattle.meaning.specs.Limits.{version_count, walk_count}
 use Rattle.meaning.specs.Lent.{Nodes, walk_record, Lent, size, is_free, free_nodes}
-use Rattle.meaning.specs.WellFormed.{WellFormed}
+use Rattle.meaning.specs.WellFormed.{SizesFit, WellFormed}
+use Rattle.records.specs.declared.Version.{Version}
+use Rattle.records.specs.Records.{record_of, records_of}
 use Rattle.audit_model.specs.Made.{kinds_of, walk_version}
 use Rattle.audit_model.specs.Descent.{answer}
 use Rattle.audit_model.specs.Records.{all_to}
 use Rattle.audit_model.specs.Tallies.{raise_to, roots_tally, nodes_tally}
-use Rattle.audit_model.specs.Audit.{Blank, record_at, records_ok, order_ok, tallies, node_ok, nodes_ok, rest_ok}
+use Rattle.audit_model.specs.Audit.{Blank, sizes_ok, record_at, records_ok, order_ok, tallies, node_ok, nodes_ok, rest_ok}
 use Rattle.audit_model.proofs.Tests.{true≢false}
 use Rattle.audit_model.proofs.Decides.{rest-sound, rest-complete}
-use Rattle.audit_model.proofs.Sizes.{lengths, lengths-unfit, blank-zeros}
+use Rattle.audit_model.proofs.Sizes.{lengths, sizes-fit, fit-sizes, blank-zeros}
 use Rattle.audit_tally.specs.Under.{Under}
 use Rattle.audit.specs.Audited.{Judged, Cleared, Small}
 
@@ -31,10 +36,23 @@ compared : (s : Lent) (codes t : List ℕ) (r : Bool) → r ≡ all_to (size s) 
 unfolding nodes_ok
 compared s codes t r e = sym e
 
-pub by_lengths : (s : Lent) (o w : Bool) (f : ℕ) → o ≡ lengths s → o ≡ false → (w ≡ false) × (f ≡ 0) → Judged s w f
-by_lengths s o w f p e j = refused s w f (λ W. lengths-unfit s o p e W.sizes) j
+module _ (s : Lent) (table : List Version) (n : ℕ) (o : Bool) (is : o ≡ lengths s) (lent : s.versions ≡ records_of table) (count : n ≡ length table) where
+  tested : (o && eqb n version_count) ≡ sizes_ok s
+  unfolding sizes_ok
+  tested = rw (is, lent, length-map table record_of, count)
+
+  pub tested-fit : (o && eqb n version_count) ≡ true → SizesFit s
+  tested-fit e = sizes-fit s (sym tested ∙ e)
+
+  pub unfit : (o && eqb n version_count) ≡ false → Judged s false 0
+  unfit e = refused s false 0 (λ W. true≢false (sym (fit-sizes s W.sizes) ∙ sym tested ∙ e)) (refl, refl)
 
 -- ---- after the sizes
+
+-- what the answer tells
+pub told : (w : Bool) (f : ℕ) → (is_some (then_some w f) ≡ w) × (unwrap_or (then_some w f) 0 ≡ cond w f 0)
+told true f = (refl, refl)
+told false f = (refl, refl)
 
 pub blank-under : (n : ℕ) (z t : List ℕ) → Blank n z → t ≡ z → Under 0 t
 unfolding Under

@@ -1,244 +1,82 @@
 // Whether any bytes are a well-formed lent state. Nothing that is lent is written.
 #![tactic(auto)]
 
-ghost use Rattle.std.specs.Prelude.{◌≡◌, cond};
+ghost use Rattle.std.specs.Prelude.{◌≡◌, ◌≤◌, length};
 ghost use Rattle.meaning.specs.Limits.{max_nodes};
-ghost use Rattle.audit_reads.specs.Slices.{lent_from};
+ghost use Rattle.std.specs.Option.{is_some, unwrap_or};
+ghost use Rattle.audit_reads.specs.Slices.{lent_in};
 ghost use Rattle.audit.specs.Audited.{Judged, Cleared, Small};
 
-use audit_reads::{Lent, Nodes, Walks};
-
-#[derive(Clone, Copy)]
-pub struct Audited {
-    pub ok: bool,
-    // The free nodes of a well-formed state, 0 for any other.
-    pub free: u32,
-}
+use audit_compare::Lengths;
+use audit_reads::Lent;
+use limits::{MAX_NODES, VERSIONS};
+use records::Version;
 
 // The largest N of a small and of a medium state.
 const SMALL: usize = 256;
 
 const MEDIUM: usize = 4096;
 
-fn judged(ok: bool, free: u32) -> Audited
-    ensures { (result.ok ≡ ok) × (result.free ≡ cond ok free 0) }
-{
-    if ok {
-        return Audited {
-            ok: true,
-            free: free,
-        };
-    }
-    Audited { ok: false, free: 0 }
-}
-
 // The audit after the sizes, with two slices of zeros to work in.
-pub fn audit_with(
-    kinds: &[u8],
-    used: &[u8],
-    counts: &[u32],
-    cells: &[u32],
-    order: &[u32],
-    versions: [records::Version; limits::VERSIONS],
-    walk_numbers: &[u32],
-    walk_nodes: &[u32],
-    walk_indices: &[i32],
-    codes: &mut [u32],
-    tallies: &mut [u32],
-) -> Audited
-    requires { Cleared (lent_from kinds.now used.now counts.now cells.now order.now versions walk_numbers.now walk_nodes.now walk_indices.now) codes.old tallies.old }
-    ensures { Judged (lent_from kinds.now used.now counts.now cells.now order.now versions
-        walk_numbers.now walk_nodes.now walk_indices.now) result.ok result.free }
+pub fn audit_with(lent: Lent, codes: &mut [u32], tallies: &mut [u32]) -> Option<u32>
+    requires { Cleared (lent_in lent) codes.old tallies.old }
+    ensures { Judged (lent_in lent.entry) (is_some result) (unwrap_or result 0) }
 {
-    let lent = Lent {
-        nodes: Nodes {
-            kinds: kinds,
-            used: used,
-            cells: cells,
-        },
-        counts: counts,
-        order: order,
-        versions: &versions,
-        walks: Walks {
-            numbers: walk_numbers,
-            nodes: walk_nodes,
-            indices: walk_indices,
-        },
+    let nodes = lent.nodes;
+    if !audit_records::records_ok(lent, codes) {
+        return None;
+    }
+    let free = audit_tally::count_free(nodes.kinds);
+    if !audit_tally::tally_order(nodes.kinds, lent.order, free, tallies) {
+        return None;
+    }
+    audit_tally::tally_links(lent, tallies);
+    let ok = audit_compare::nodes_ok(nodes, lent.counts, codes, tallies);
+    ok.then_some(free)
+}
+
+// The same, of a state of no more than N nodes.
+pub fn audit_sized<const N: usize>(lent: Lent) -> Option<u32>
+    requires small { Small (lent_in lent) N }
+    requires most { N ≤ max_nodes }
+    ensures { Judged (lent_in lent.entry) (is_some result) (unwrap_or result 0) }
+{
+    let mut codes = [0u32; N];
+    let mut tallies = [0u32; N];
+    audit_with(lent, &mut codes, &mut tallies)
+}
+
+// Of a parameter the proofs know its length, and of a field they don't.
+fn table_length(versions: &[Version; VERSIONS]) -> usize
+    ensures { result ≡ length versions.now }
+{
+    versions.len()
+}
+
+// The number of free nodes of a well-formed state, and none of any other, whatever is lent; small states don't pay for the largest.
+pub fn audit(lent: Lent) -> Option<u32>
+    ensures { Judged (lent_in lent.entry) (is_some result) (unwrap_or result 0) }
+{
+    let n = lent.nodes.kinds.len();
+    let lengths = Lengths {
+        kinds: n,
+        used: lent.nodes.used.len(),
+        cells: lent.nodes.cells.len(),
+        counts: lent.counts.len(),
+        order: lent.order.len(),
+        walk_numbers: lent.walks.numbers.len(),
+        walk_nodes: lent.walks.nodes.len(),
+        walk_indices: lent.walks.indices.len(),
     };
-    let right = audit_records::records_ok(lent, codes);
-    if !right {
-        return judged(false, 0);
-    }
-    let free = audit_tally::count_free(kinds);
-    let placed = audit_tally::tally_order(kinds, order, free, tallies);
-    if !placed {
-        return judged(false, 0);
-    }
-    audit_tally::tally_links(kinds, used, cells, versions, walk_numbers, tallies);
-    let ok = audit_compare::nodes_ok(kinds, used, counts, cells, codes, tallies);
-    judged(ok, free)
-}
-
-pub fn audit_small(
-    kinds: &[u8],
-    used: &[u8],
-    counts: &[u32],
-    cells: &[u32],
-    order: &[u32],
-    versions: [records::Version; limits::VERSIONS],
-    walk_numbers: &[u32],
-    walk_nodes: &[u32],
-    walk_indices: &[i32],
-) -> Audited
-    requires { Small (lent_from kinds.now used.now counts.now cells.now order.now versions walk_numbers.now walk_nodes.now walk_indices.now) 256 }
-    ensures { Judged (lent_from kinds.now used.now counts.now cells.now order.now versions
-        walk_numbers.now walk_nodes.now walk_indices.now) result.ok result.free }
-{
-    let mut codes = [0u32; SMALL];
-    let mut tallies = [0u32; SMALL];
-    audit_with(
-        kinds,
-        used,
-        counts,
-        cells,
-        order,
-        versions,
-        walk_numbers,
-        walk_nodes,
-        walk_indices,
-        &mut codes,
-        &mut tallies,
-    )
-}
-
-pub fn audit_medium(
-    kinds: &[u8],
-    used: &[u8],
-    counts: &[u32],
-    cells: &[u32],
-    order: &[u32],
-    versions: [records::Version; limits::VERSIONS],
-    walk_numbers: &[u32],
-    walk_nodes: &[u32],
-    walk_indices: &[i32],
-) -> Audited
-    requires { Small (lent_from kinds.now used.now counts.now cells.now order.now versions walk_numbers.now walk_nodes.now walk_indices.now) 4096 }
-    ensures { Judged (lent_from kinds.now used.now counts.now cells.now order.now versions
-        walk_numbers.now walk_nodes.now walk_indices.now) result.ok result.free }
-{
-    let mut codes = [0u32; MEDIUM];
-    let mut tallies = [0u32; MEDIUM];
-    audit_with(
-        kinds,
-        used,
-        counts,
-        cells,
-        order,
-        versions,
-        walk_numbers,
-        walk_nodes,
-        walk_indices,
-        &mut codes,
-        &mut tallies,
-    )
-}
-
-pub fn audit_large(
-    kinds: &[u8],
-    used: &[u8],
-    counts: &[u32],
-    cells: &[u32],
-    order: &[u32],
-    versions: [records::Version; limits::VERSIONS],
-    walk_numbers: &[u32],
-    walk_nodes: &[u32],
-    walk_indices: &[i32],
-) -> Audited
-    requires { Small (lent_from kinds.now used.now counts.now cells.now order.now versions walk_numbers.now walk_nodes.now walk_indices.now) max_nodes }
-    ensures { Judged (lent_from kinds.now used.now counts.now cells.now order.now versions
-        walk_numbers.now walk_nodes.now walk_indices.now) result.ok result.free }
-{
-    let mut codes = [0u32; limits::MAX_NODES];
-    let mut tallies = [0u32; limits::MAX_NODES];
-    audit_with(
-        kinds,
-        used,
-        counts,
-        cells,
-        order,
-        versions,
-        walk_numbers,
-        walk_nodes,
-        walk_indices,
-        &mut codes,
-        &mut tallies,
-    )
-}
-
-// A state is well-formed or not, whatever is lent; small states don't pay for the largest.
-pub fn audit(
-    kinds: &[u8],
-    used: &[u8],
-    counts: &[u32],
-    cells: &[u32],
-    order: &[u32],
-    versions: [records::Version; limits::VERSIONS],
-    walk_numbers: &[u32],
-    walk_nodes: &[u32],
-    walk_indices: &[i32],
-) -> Audited
-    ensures { Judged (lent_from kinds.now used.now counts.now cells.now order.now versions
-        walk_numbers.now walk_nodes.now walk_indices.now) result.ok result.free }
-{
-    let n = kinds.len();
-    let fits = audit_compare::lengths_ok(
-        n,
-        used.len(),
-        cells.len(),
-        counts.len(),
-        order.len(),
-        walk_numbers.len(),
-        walk_nodes.len(),
-        walk_indices.len(),
-    );
-    if !fits {
-        return judged(false, 0);
+    let fit = lengths.fit() & (table_length(lent.versions) == VERSIONS);
+    if !fit {
+        return None;
     }
     if n <= SMALL {
-        return audit_small(
-            kinds,
-            used,
-            counts,
-            cells,
-            order,
-            versions,
-            walk_numbers,
-            walk_nodes,
-            walk_indices,
-        );
+        return audit_sized::<SMALL>(lent);
     }
     if n <= MEDIUM {
-        return audit_medium(
-            kinds,
-            used,
-            counts,
-            cells,
-            order,
-            versions,
-            walk_numbers,
-            walk_nodes,
-            walk_indices,
-        );
+        return audit_sized::<MEDIUM>(lent);
     }
-    audit_large(
-        kinds,
-        used,
-        counts,
-        cells,
-        order,
-        versions,
-        walk_numbers,
-        walk_nodes,
-        walk_indices,
-    )
+    audit_sized::<MAX_NODES>(lent)
 }

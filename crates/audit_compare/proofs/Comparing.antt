@@ -1,18 +1,22 @@
 -- What the calls of the comparison give is what the model says.
-use mathlib.Core.Path.{◌≡◌, refl, sym, ◌∙◌}
+use mathlib.Core.Path.{◌≡◌, refl, sym, ap, ◌∙◌}
 use mathlib.Core.Logic.{◌≢◌}
-use mathlib.Core.Bool.{Bool, true, false, cond, not, ◌&&◌, false≢true}
-use mathlib.Core.List.{List}
-use Prim.Native.Nat.{ℕ, ◌+◌, ◌≤◌, ◌<◌, ◌*◌}
+use Rattle.std.proofs.Math.Bool.{and-true}
+use mathlib.Core.Bool.{Bool, true, false, ◌&&◌, false≢true}
+use mathlib.Core.List.{List, [], ◌∷◌, map}
+use Prim.Native.Nat.{ℕ, zero, suc, ◌+◌, ◌≤◌, ◌<◌}
 use native.Mathlib.Decide.{ℕ_discrete}
+use native.Mathlib.Numerals.{add-one}
 use native.Mathlib.Omega.{arith}
-use lib.Dec.{eqb, leb}
-use lib.ListN.{get_or}
-use borrow.Author.Tests.{eq-eqb, ne_eqb, le-leb, lt-leb}
-use Rattle.meaning.specs.Limits.{max_nodes, node_cells, free_kind, all_numbers, places}
-use Rattle.meaning.specs.Lent.{Nodes, kind_of, used_of, cell_of}
-use Rattle.audit_model.specs.Audit.{lengths_ok, spare_ok, node_ok}
-use Rattle.audit_model.proofs.Steps.{Held, held_start, held_next, from-ends, from-fails, cond_yes, cond_no, and_yes, and_no}
+use Rattle.std.specs.List.{list_all, range_with_len}
+use Rattle.std.proofs.lemmas.List.Folds.{list_all-append, list_all-map}
+use Rattle.std.proofs.lemmas.List.FromFn.{map-range_with_len_more}
+use Rattle.audit_model.specs.Records.{all_to}
+use lib.Dec.{eqb}
+use borrow.Author.Tests.{eq-eqb, ne_eqb}
+use Rattle.meaning.specs.Limits.{node_cells}
+use Rattle.audit_model.specs.Audit.{spare_ok}
+use Rattle.audit_model.proofs.Steps.{Held, held_start, held_next, from-ends, from-fails}
 
 module _ (u : ℕ) (cell : ℕ → ℕ) where
   pub spare-zero : (i x : ℕ) → x ≡ cell i → x ≡ 0 → eqb (cell i) 0 ≡ true
@@ -45,30 +49,17 @@ module _ (u : ℕ) (cell : ℕ → ℕ) where
   look-ends i true (l, h, f) k = spare-ends i (h refl) k
   look-ends i false (l, h, f) k = f refl
 
-module _ (s : Nodes) (counts codes t : List ℕ) (n k u c x : ℕ) (kind : k ≡ kind_of s n) (used : u ≡ used_of s n) (count : c ≡ get_or counts n 0) (tally : x ≡ get_or t n 0) where
-  node-is : (m : ℕ) → m ≡ get_or codes n 0
-      → cond (eqb k free_kind) ((eqb x 1 && eqb u 0) && eqb c 0) ((not (eqb m 0) && eqb x c) && spare_ok u (cell_of s n)) ≡ node_ok s counts codes t n
-  unfolding node_ok
-  node-is m e = rw (kind, used, count, tally, e)
+-- ---- all nodes
 
-  pub node-free : k ≡ free_kind → ((eqb x 1 && eqb u 0) && eqb c 0) ≡ node_ok s counts codes t n
-  node-free e = cond_yes _ _ _ (eq-eqb k free_kind e) ∙ node-is (get_or codes n 0) refl
+listed : (n : ℕ) (test : ℕ → Bool) → all_to n test ≡ list_all (λ b. b) (map test (range_with_len 0 n))
+unfolding all_to
+listed zero test = refl
+listed (suc n) test =
+    ap (λ (b : Bool). b && test n) (listed n test)
+    ∙ ap (λ (b : Bool). list_all (λ b. b) (map test (range_with_len 0 n)) && b) (sym (and-true (test n)))
+    ∙ sym (list_all-append (λ b. b) (map test (range_with_len 0 n)) (test n ∷ []))
+    ∙ ap (λ (bs : List Bool). list_all (λ b. b) bs) (sym (map-range_with_len_more test 0 n n (omega arith)))
+    ∙ ap (λ (k : ℕ). list_all (λ b. b) (map test (range_with_len 0 k))) (add-one n)
 
-  pub node-differs : (m : ℕ) → m ≡ get_or codes n 0 → k ≢ free_kind → (not (eqb m 0) && eqb x c) ≡ false → false ≡ node_ok s counts codes t n
-  node-differs m e f q = and_no _ _ q ∙ cond_no _ _ _ (ne_eqb k free_kind f) ∙ node-is m e
-
-  pub node-spare : (m : ℕ) (r : Bool) → m ≡ get_or codes n 0 → k ≢ free_kind → (not (eqb m 0) && eqb x c) ≡ true → r ≡ spare_ok u (cell_of s n) → r ≡ node_ok s counts codes t n
-  node-spare m r e f q p = p ∙ and_yes _ _ q ∙ cond_no _ _ _ (ne_eqb k free_kind f) ∙ node-is m e
-
--- ---- lengths
-
-pub too_long : (n u e c o a b i : ℕ) → max_nodes < n → false ≡ lengths_ok n u e c o a b i
-unfolding lengths_ok
-too_long n u e c o a b i l = and_no _ _ (lt-leb n max_nodes l)
-
-pub not-long : (n u e c o a b i : ℕ) (r : Bool) → n ≤ max_nodes
-    → r ≡ ((((((leb 1 n && eqb u n) && eqb e (node_cells * n)) && eqb c n) && eqb o n) && eqb a all_numbers) && eqb b places
-    && eqb i places)
-    → r ≡ lengths_ok n u e c o a b i
-unfolding lengths_ok
-not-long n u e c o a b i r l p = p ∙ and_yes _ _ (le-leb n max_nodes l)
+pub all_listed : (n : ℕ) (test : ℕ → Bool) → all_to n test ≡ list_all test (range_with_len 0 n)
+all_listed n test = listed n test ∙ list_all-map (λ b. b) test (range_with_len 0 n)

@@ -5,10 +5,13 @@ ghost use Rattle.std.specs.Prelude.{◌≡◌};
 ghost use Rattle.records.specs.Records.{records_of};
 ghost use Rattle.store.specs.Store.{store_of};
 ghost use Rattle.walk.specs.Walk.{slices};
+ghost use Rattle.std.specs.Option.{is_some, unwrap_or};
+ghost use Rattle.audit.specs.Audited.{Judged};
 ghost use Rattle.audit_reads.specs.Slices.{lent_from};
 ghost use Rattle.runs.specs.Runs.{run_of, progress, CanRun, run_from};
 ghost use Rattle.batch.specs.Batched.{Batches, batched_with};
 
+use audit_reads::{Lent, Nodes, Walks};
 use limits::numbers::{DONE, ILL_FORMED, NO_ROOM, RAGGED};
 use limits::{FRAME_SIZE, VERSIONS};
 use records::Version;
@@ -64,6 +67,38 @@ fn serve(
     r
 }
 
+// The audit of the slices, which are lent for it as one. Where they are lent on as `&mut` too, this gets no proof.
+fn audited(
+    kinds: &[u8],
+    used: &[u8],
+    counts: &[u32],
+    cells: &[u32],
+    order: &[u32],
+    versions: &[Version; VERSIONS],
+    walk_numbers: &[u32],
+    walk_nodes: &[u32],
+    walk_indices: &[i32],
+) -> Option<u32>
+    ensures { Judged (lent_from kinds.now used.now counts.now cells.now order.now versions.now
+        walk_numbers.now walk_nodes.now walk_indices.now) (is_some result) (unwrap_or result 0) }
+{
+    audit::audit(Lent {
+        nodes: Nodes {
+            kinds: kinds,
+            used: used,
+            cells: cells,
+        },
+        counts: counts,
+        order: order,
+        versions: versions,
+        walks: Walks {
+            numbers: walk_numbers,
+            nodes: walk_nodes,
+            indices: walk_indices,
+        },
+    })
+}
+
 // Each frame is answered at its 6 bytes of the room. A batch that is refused writes nothing.
 pub fn batch(
     kinds: &mut [u8],
@@ -92,20 +127,19 @@ pub fn batch(
     if room.len() < requests::answer_place(count) {
         return report(NO_ROOM, 0, versions);
     }
-    let judged = audit::audit(
+    let Some(free) = audited(
         kinds,
         used,
         counts,
         cells,
         order,
-        versions,
+        &versions,
         walk_numbers,
         walk_nodes,
         walk_indices,
-    );
-    if !judged.ok {
+    ) else {
         return report(ILL_FORMED, 0, versions);
-    }
+    };
     let r = serve(
         kinds,
         used,
@@ -115,7 +149,7 @@ pub fn batch(
         walk_numbers,
         walk_nodes,
         walk_indices,
-        judged.free as usize,
+        free as usize,
         versions,
         requests,
         room,

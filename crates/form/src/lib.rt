@@ -7,6 +7,7 @@ ghost use Rattle.meaning.specs.Fresh.{down_from};
 ghost use Rattle.audit_reads.specs.Slices.{lent_from};
 ghost use Rattle.form.specs.Forms.{zeros, Forms};
 
+use audit_compare::Lengths;
 use limits::VERSIONS;
 use limits::numbers::{DONE, ILL_FORMED};
 use records::Version;
@@ -60,18 +61,18 @@ pub fn form(
         (lent_from kinds.new used.new counts.new cells.now order.new versions.new
         walk_numbers.new walk_nodes.new walk_indices.new) result }
 {
-    let lengths = audit_compare::lengths_ok(
-        kinds.len(),
-        used.len(),
-        cells.len(),
-        counts.len(),
-        order.len(),
-        walk_numbers.len(),
-        walk_nodes.len(),
-        walk_indices.len(),
-    );
-    let fits = lengths & (versions.len() == VERSIONS);
-    if !fits {
+    let lengths = Lengths {
+        kinds: kinds.len(),
+        used: used.len(),
+        cells: cells.len(),
+        counts: counts.len(),
+        order: order.len(),
+        walk_numbers: walk_numbers.len(),
+        walk_nodes: walk_nodes.len(),
+        walk_indices: walk_indices.len(),
+    };
+    let fit = lengths.fit() & (versions.len() == VERSIONS);
+    if !fit {
         return ILL_FORMED;
     }
     clear_nodes(kinds, used, counts, order);

@@ -1,26 +1,21 @@
-use borrow.Author.Tests.{not-true, not-false}
-use Rattle.audit_reads.specs.Slices.{lent_from}
-use Rattle.audit.proofs.Judging.{blank-under, by-records, by_order, by-nodes}
-use mathlib.Core.Path.{ap}
+use mathlib.Core.Path.{refl, ap}
 use mathlib.Core.Bool.{not}
+use borrow.Author.Tests.{not-true, not-false}
+use Rattle.audit_reads.specs.Slices.{lent_in}
+use Rattle.audit.proofs.Judging.{blank-under, by-records, by_order, by-nodes, told}
 use Rattle.audit.proofs.audit_with.Goals as goal
 
--- `audit::audit_with` meets its contract.
+pub returns-then-not-records_ok : goal.returns-then-not-records_ok
+returns-then-not-records_ok c = by-records (lent_in c.args.lent) c.args.codes.now c.args.tallies.now c.requires c.records_ok.result _ _ _ c.records_ok.ensures (not-true _ (ap not c.if-not-records_ok.true)) (refl, refl)
 
-pub returns-then-not-right : goal.returns-then-not-right
-returns-then-not-right c = by-records (lent_from c.args.kinds.now c.args.used.now c.args.counts.now c.args.cells.now c.args.order.now c.args.versions c.args.walk_numbers.now c.args.walk_nodes.now c.args.walk_indices.now) c.args.codes.now c.args.tallies.now c.requires c.records_ok-right.result _ _ _ c.records_ok-right.ensures (not-true _ (ap not c.if-not-right.true)) c.judged.ensures
+pub tally_order-requires : goal.tally_order-requires
+tally_order-requires c = (c.count_free-free.ensures.1, blank-under _ c.args.codes.now c.args.tallies.now c.requires.codes c.requires.tallies)
 
-pub tally_order-placed-requires : goal.tally_order-placed-requires
-tally_order-placed-requires c = (c.count_free-free.ensures.1, blank-under _ c.args.codes.now c.args.tallies.now c.requires.codes c.requires.tallies)
-
-pub returns-then-not-placed : goal.returns-then-not-placed
-returns-then-not-placed c = by_order (lent_from c.args.kinds.now c.args.used.now c.args.counts.now c.args.cells.now c.args.order.now c.args.versions c.args.walk_numbers.now c.args.walk_nodes.now c.args.walk_indices.now) c.args.codes.now c.args.tallies.now c.requires c.records_ok-right.result _ _ c.tally_order-placed.result _ _ c.records_ok-right.ensures (not-false _ (ap not c.if-not-right.false)) c.count_free-free.ensures.0 c.tally_order-placed.ensures.0 (not-true _ (ap not c.if-not-placed.true)) c.judged-then-not-placed.ensures
-
-pub tally_links-requires : goal.tally_links-requires
-tally_links-requires c = (c.requires.sizes.most, (c.tally_order-placed.ensures.1 (not-false _ (ap not c.if-not-placed.false))).1)
-
-pub nodes_ok-ok-requires : goal.nodes_ok-ok-requires
-nodes_ok-ok-requires c = c.requires.sizes.most
+pub returns-then-not-tally_order : goal.returns-then-not-tally_order
+returns-then-not-tally_order c = by_order (lent_in c.args.lent) c.args.codes.now c.args.tallies.now c.requires c.records_ok.result _ _ c.tally_order.result _ _ c.records_ok.ensures (not-false _ (ap not c.if-not-records_ok.false)) c.count_free-free.ensures.0 c.tally_order.ensures.0 (not-true _ (ap not c.if-not-tally_order.true)) (refl, refl)
 
 pub returns : goal.returns
-returns c = by-nodes (lent_from c.args.kinds.now c.args.used.now c.args.counts.now c.args.cells.now c.args.order.now c.args.versions c.args.walk_numbers.now c.args.walk_nodes.now c.args.walk_indices.now) c.args.codes.now c.args.tallies.now c.requires c.records_ok-right.result _ _ c.tally_order-placed.result _ _ c.nodes_ok-ok.result _ _ c.records_ok-right.ensures (not-false _ (ap not c.if-not-right.false)) c.count_free-free.ensures.0 c.tally_order-placed.ensures.0 (not-false _ (ap not c.if-not-placed.false)) (c.tally_order-placed.ensures.1 (not-false _ (ap not c.if-not-placed.false))).0 c.tally_links.ensures c.nodes_ok-ok.ensures c.judged-2.ensures
+returns c =
+    let placed = not-false _ (ap not c.if-not-tally_order.false) in
+    by-nodes (lent_in c.args.lent) c.args.codes.now c.args.tallies.now c.requires c.records_ok.result _ _ c.tally_order.result _ _ c.nodes_ok-ok.result _ _ c.records_ok.ensures (not-false _ (ap not c.if-not-records_ok.false)) c.count_free-free.ensures.0 c.tally_order.ensures.0 placed
+    (c.tally_order.ensures.1 placed).0 c.tally_links.ensures c.nodes_ok-ok.ensures (rw c.then_some.ensures (told c.nodes_ok-ok.result c.count_free-free.result))

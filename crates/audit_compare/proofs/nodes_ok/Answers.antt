@@ -1,30 +1,17 @@
-use mathlib.Core.Path.{sym, ◌∙◌}
+use mathlib.Core.Path.{refl, sym, ◌∙◌}
 use native.Mathlib.Omega.{arith}
-use borrow.Author.Tests.{not-true, not-false}
-use Rattle.audit_model.proofs.Steps.{all_start, all-next, all-fails, all-ends}
-use mathlib.Core.Path.{ap}
-use mathlib.Core.Bool.{not}
+use borrow.Author.Rules.{rules}
+use lib.ListN.{length}
+use Rattle.std.proofs.lemmas.Iterator.{YieldsList-from_range}
+use Rattle.std.proofs.lemmas.Iterator.Search.{all_from_yields_List}
+use Rattle.std.proofs.Common.{tests}
+use Rattle.audit_model.specs.Audit.{node_ok}
+use Rattle.audit_reads.specs.Slices.{nodes_in}
+use Rattle.audit_compare.proofs.Comparing.{all_listed}
 use Rattle.audit_compare.proofs.nodes_ok.Goals as goal
 
--- `audit_compare::nodes_ok` meets its contract.
-
-pub overflow_cast-len : goal.overflow_cast-len
-overflow_cast-len c = record { fits = omega (arith, c.requires) }
-
-pub loop-n-init : goal.loop-n-init
-loop-n-init c = (omega arith, all_start _)
-
-pub returns-then-not-right : goal.returns-then-not-right
-returns-then-not-right c = all-fails _ _ c.loop-n.n c.loop-n-test.true (sym c.node_ok-right.ensures ∙ not-true _ (ap not c.if-not-right.true))
-
-pub overflow_add-n : goal.overflow_add-n
-overflow_add-n c = record { fits = omega (arith, c.loop-n-test.true, c.requires) }
-
-pub loop-n-smaller : goal.loop-n-smaller
-loop-n-smaller c = omega (arith, c.loop-n-test.true)
-
-pub loop-n-preserved : goal.loop-n-preserved
-loop-n-preserved c = (omega (arith, c.loop-n-test.true), all-next c.loop-n.n _ c.loop-n.invariant.1 (sym c.node_ok-right.ensures ∙ not-false _ (ap not c.if-not-right.false)))
-
 pub returns : goal.returns
-returns c = all-ends c.loop-n.n _ _ c.loop-n.invariant.1 c.loop-n.invariant.0 c.loop-n-test.false
+returns c =
+    let n = length c.args.nodes.kinds.now in
+    let test = node_ok (nodes_in c.args.nodes) c.args.counts.now c.args.codes.now c.args.tallies.now in
+    all_from_yields_List test _ _ c.all.result c.all.ensures.ran (YieldsList-from_range 0 n n refl (omega arith)) (λ x b q k. search (rules, tests)) ∙ sym (all_listed n test)

@@ -1,6 +1,6 @@
 use mathlib.Core.Path.{◌≡◌}
 use mathlib.Core.Bool.{true}
-use Prim.Native.Nat.{ℕ, ◌≤◌, ◌-◌}
+use Prim.Native.Nat.{ℕ}
 use lib.ListN.{get_or}
 use Rattle.meaning.specs.Lent.{is_free}
 use Rattle.audit_model.specs.Tallies.{raise_to}
@@ -9,7 +9,4 @@ use Rattle.audit_model.specs.Made.{kinds_of}
 use Rattle.audit_tally.proofs.tally_order.Given as goal
 
 abbrev pub invariant-loop-j : goal.invariant-loop-j
-invariant-loop-j l = (l.j ≤ l.f) × (all_to l.j (λ (j' : ℕ). is_free (kinds_of l.kinds) (get_or l.order j' 0)) ≡ true) × (l.t ≡ raise_to l.j (λ (j' : ℕ). get_or l.order j' 0) l.initial.t)
-
-abbrev pub decreases-loop-j : goal.decreases-loop-j
-decreases-loop-j l = l.f - l.j
+invariant-loop-j l = (all_to l.j (λ (k : ℕ). is_free (kinds_of l.kinds) (get_or l.order k 0)) ≡ true) × (l.t ≡ raise_to l.j (λ (k : ℕ). get_or l.order k 0) l.initial.t)

@@ -1,3 +1,4 @@
+use mathlib.Core.Path.{refl}
 use native.Mathlib.Omega.{arith}
 use Rattle.batch.proofs.Batching.{ragged, no_room, ill-formed, can-run, served, reported}
 use Rattle.batch.proofs.batch.Goals as goal
@@ -8,11 +9,11 @@ returns-then-asked-ne0 c = reported _ _ _ _ _ _ _ _ _ _ _ _ c.args.versions _ _ 
 pub returns-then-room-answer_place : goal.returns-then-room-answer_place
 returns-then-room-answer_place c = reported _ _ _ _ _ _ _ _ _ _ _ _ c.args.versions _ _ _ c.report-then-room-answer_place.ensures (no_room _ _ _ c.if-asked-ne0.false (rw c.answer_place.ensures at c.if-room-answer_place.true))
 
-pub returns-then-not-judged : goal.returns-then-not-judged
-returns-then-not-judged c = reported _ _ _ _ _ _ _ _ _ _ _ _ c.args.versions _ _ _ c.report-then-not-judged.ensures (ill-formed _ _ _ c.if-asked-ne0.false (rw c.answer_place.ensures at c.if-room-answer_place.false) _ _ c.audit-judged.ensures c.if-not-judged.true)
+pub returns-in_default : goal.returns-in_default
+returns-in_default c = reported _ _ _ _ _ _ _ _ _ _ _ _ c.args.versions _ _ _ c.report-in_default.ensures (ill-formed _ _ _ c.if-asked-ne0.false (rw c.answer_place.ensures at c.if-room-answer_place.false) _ _ c.in_default.ensures refl)
 
 pub serve-r-requires : goal.serve-r-requires
-serve-r-requires c = can-run _ _ _ c.if-asked-ne0.false (rw c.answer_place.ensures at c.if-room-answer_place.false) _ _ c.audit-judged.ensures c.if-not-judged.false (omega arith)
+serve-r-requires c = can-run _ _ _ c.if-asked-ne0.false (rw c.answer_place.ensures at c.if-room-answer_place.false) _ _ c.in-Some.ensures refl (omega arith)
 
 pub returns : goal.returns
-returns c = reported _ _ _ _ _ _ _ _ _ _ _ _ c.serve-r.result.versions _ _ _ c.report-2.ensures (served _ _ _ c.if-asked-ne0.false (rw c.answer_place.ensures at c.if-room-answer_place.false) _ _ c.audit-judged.ensures c.if-not-judged.false _ _ c.serve-r.ensures)
+returns c = reported _ _ _ _ _ _ _ _ _ _ _ _ c.serve-r.result.versions _ _ _ c.report-2.ensures (served _ _ _ c.if-asked-ne0.false (rw c.answer_place.ensures at c.if-room-answer_place.false) _ _ c.in-Some.ensures refl _ _ c.serve-r.ensures)
