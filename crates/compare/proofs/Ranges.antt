@@ -37,22 +37,22 @@ module _ (cells : List ℕ) (bits h n m from to : ℕ) where
 
 -- ---- one index of a leaf
 
-module _ (cells : List ℕ) (bits n m from to i b x y : ℕ) (eb : b ≡ bucket bits 0 i)
+module _ (cells : List ℕ) (bits h n m from to i b x y : ℕ) (eh : h ≡ 0) (eb : b ≡ bucket bits h i)
     (ex : x ≡ get_or cells (node_cells * n + b) 0) (ey : y ≡ get_or cells (node_cells * m + b) 0)
-    (l : from ≤ i) (s : SameIn cells bits 0 n m from i) where
-  left : x ≡ element_in cells bits 0 n i
-  left = leaf-found cells bits 0 n i b x refl eb ex
+    (l : from ≤ i) (s : SameIn cells bits h n m from i) where
+  left : x ≡ element_in cells bits h n i
+  left = leaf-found cells bits h n i b x eh eb ex
 
-  right : y ≡ element_in cells bits 0 m i
-  right = leaf-found cells bits 0 m i b y refl eb ey
+  right : y ≡ element_in cells bits h m i
+  right = leaf-found cells bits h m i b y eh eb ey
 
-  pub leaf-differs : i < to → x ≢ y → FirstDifference cells bits 0 n m from to i
-  leaf-differs k f = one-differs cells bits 0 n m from to i l k s (λ e. f (left ∙ e ∙ sym right))
+  pub leaf-differs : i < to → x ≢ y → FirstDifference cells bits h n m from to i
+  leaf-differs k f = one-differs cells bits h n m from to i l k s (λ e. f (left ∙ e ∙ sym right))
 
-  pub leaf-goes-on : x ≡ y → SameIn cells bits 0 n m from (i + 1)
+  pub leaf-goes-on : x ≡ y → SameIn cells bits h n m from (i + 1)
   leaf-goes-on e =
-      let one : element_in cells bits 0 n i ≡ element_in cells bits 0 m i = sym left ∙ e ∙ right in
-      ranges-join cells bits 0 n m from to i (i + 1) s (λ j a k. let is : i ≡ j = omega arith in rw is at one)
+      let one : element_in cells bits h n i ≡ element_in cells bits h m i = sym left ∙ e ∙ right in
+      ranges-join cells bits h n m from to i (i + 1) s (λ j a k. let is : i ≡ j = omega arith in rw is at one)
 
 -- ---- one child of a branch
 

@@ -3,11 +3,11 @@
 
 ghost use Rattle.std.specs.Prelude.{◌≡◌, ◌+◌, ◌-◌, ◌*◌, ◌^◌, ◌<◌, get_or};
 ghost use Rattle.meaning.specs.Limits.{node_cells, word_width};
-ghost use Rattle.meaning.specs.WellFormed.{LegalBits};
 ghost use Rattle.shape.specs.Legal.{Legal};
 ghost use Rattle.lookup.specs.Lookup.{leaf_in, element_in, got};
 
 use records::{NodeNo, Version};
+use shape::form::Form;
 use shape::vector_utils;
 
 // A cell of a node, or 0 where there is none: no caller has to show that a node is there.
@@ -30,30 +30,26 @@ fn wide_cell_at(cells: &[u32], node: usize, i: u32) -> usize
     0
 }
 
-// The leaf of an index below a node of that height.
-pub fn leaf(cells: &[u32], bits: u32, height: u32, node: NodeNo, index: u32) -> NodeNo
-    requires legal { LegalBits bits }
-    requires shift { height * bits < word_width }
-    ensures { result.0 ≡ leaf_in cells.now bits height node.0 index }
+// The leaf of an index below a node of that form. The shift falls by the bits: a `for` over the heights would multiply at each.
+pub fn leaf(cells: &[u32], form: Form, node: NodeNo, index: u32) -> NodeNo
+    ensures { result.0 ≡ leaf_in cells.now form.bits form.height node.0 index }
 {
-    let mask = vector_utils::mask(bits);
+    let mask = vector_utils::mask(form.bits);
     let mut n = node.0 as usize;
-    let mut shift = height * bits;
+    let mut shift = form.height * form.bits;
     while shift > 0 {
         n = wide_cell_at(cells, n, (index >> shift) & mask);
-        shift -= bits;
+        shift -= form.bits;
     }
     NodeNo(n as u32)
 }
 
-// The element at an index below a node of that height.
-pub fn element(cells: &[u32], bits: u32, height: u32, node: NodeNo, index: u32) -> u32
-    requires legal { LegalBits bits }
-    requires shift { height * bits < word_width }
-    ensures { result ≡ element_in cells.now bits height node.0 index }
+// The element at an index below a node of that form.
+pub fn element(cells: &[u32], form: Form, node: NodeNo, index: u32) -> u32
+    ensures { result ≡ element_in cells.now form.bits form.height node.0 index }
 {
-    let n = leaf(cells, bits, height, node, index);
-    let b = vector_utils::bucket(bits, index, 0);
+    let n = leaf(cells, form, node, index);
+    let b = vector_utils::bucket(form.bits, index, 0);
     cell_at(cells, n, b)
 }
 
@@ -69,8 +65,8 @@ pub fn get(cells: &[u32], v: Version, index: u32) -> Option<u32>
     ensures { result ≡ got cells.now v index }
 {
     if index < v.length {
-        let h = shape::height(v.bits, v.length);
-        return Some(element(cells, v.bits, h, NodeNo(v.root), index));
+        let form = Form::of(v.bits, v.length);
+        return Some(element(cells, form, NodeNo(v.root), index));
     }
     None
 }

@@ -5,7 +5,6 @@ mod leaf;
 
 ghost use Rattle.std.specs.Prelude.{◌≡◌, Bool, ◌+◌, ◌*◌, ◌/◌, ◌^◌, ◌<◌, eqb};
 ghost use Rattle.meaning.specs.Limits.{word_width, next_back_code};
-ghost use Rattle.meaning.specs.WellFormed.{LegalBits};
 ghost use Rattle.shape.specs.Legal.{Legal};
 ghost use Rattle.lookup.specs.Lookup.{leaf_in};
 ghost use Rattle.walk.specs.Walk.{walks_of, Walkable};
@@ -17,6 +16,7 @@ use limits::numbers::{DONE, NOTHING_THERE};
 use limits::operations;
 use records::{NodeNo, Version};
 use requests::{Answer, Frame};
+use shape::form::Form;
 use shape::vector_utils;
 use walk::Walks;
 
@@ -31,22 +31,19 @@ fn is_get(f: Frame, party: u8, slot: u8, length: u32) -> bool
 // Indices that differ in nothing but their last bits have one leaf.
 fn leaf_again(
     cells: &[u32],
-    bits: u32,
-    height: u32,
+    form: Form,
     root: NodeNo,
     before: u32,
     leaf: NodeNo,
     index: u32,
 ) -> NodeNo
-    requires legal { LegalBits bits }
-    requires shift { height * bits < word_width }
-    requires leaf { leaf.0 ≡ leaf_in cells.now bits height root.0 before }
-    ensures { result.0 ≡ leaf_in cells.now bits height root.0 index }
+    requires { leaf.0 ≡ leaf_in cells.now form.bits form.height root.0 before }
+    ensures { result.0 ≡ leaf_in cells.now form.bits form.height root.0 index }
 {
-    if index ^ before <= vector_utils::mask(bits) {
+    if index ^ before <= vector_utils::mask(form.bits) {
         return leaf;
     }
-    lookup::leaf(cells, bits, height, root, index)
+    lookup::leaf(cells, form, root, index)
 }
 
 // Answers the gets from frame k on, up to the first frame that is none, and says which that is.
@@ -65,16 +62,16 @@ pub fn gets(
     ensures gets { Gets cells.now party slot v requests.now room.old room.new k count result }
     ensures stops { Stops (is_get party slot v.length) requests.now count result }
 {
-    let h = shape::height(v.bits, v.length);
+    let form = Form::of(v.bits, v.length);
     let root = NodeNo(v.root);
     let mut before = 0;
-    let mut leaf = lookup::leaf(cells, v.bits, h, root, before);
+    let mut leaf = lookup::leaf(cells, form, root, before);
     for j in k..count {
         let f = requests::frame_at(requests, j);
         if !is_get(f, party, slot, v.length) {
             return j;
         }
-        leaf = leaf_again(cells, v.bits, h, root, before, leaf, f.index);
+        leaf = leaf_again(cells, form, root, before, leaf, f.index);
         before = f.index;
         let b = vector_utils::bucket(v.bits, before, 0);
         let x = lookup::cell_at(cells, leaf, b);

@@ -1,6 +1,7 @@
 // Module 1: the height of a version, and whether its root is full.
 #![tactic(auto)]
 
+pub mod form;
 pub mod vector_utils;
 
 ghost use Rattle.std.specs.Prelude.{◌≡◌, ◌*◌, ◌<◌, ◌≤◌};

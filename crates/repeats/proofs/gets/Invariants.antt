@@ -10,4 +10,4 @@ invariant-loop-j l =
     (InARow (is_get l.party l.slot l.v.length) l.requests l.k l.count l.j)
     × (l.room ≡ after_gets l.cells l.v l.requests l.initial.room l.k (l.j - l.k))
     × (length l.room ≡ length l.initial.room)
-    × (l.leaf.0 ≡ leaf_in l.cells l.v.bits l.h l.v.root l.before)
+    × (l.leaf.0 ≡ leaf_in l.cells l.form.bits l.form.height l.v.root l.before)

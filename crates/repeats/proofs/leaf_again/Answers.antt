@@ -6,4 +6,4 @@ use Rattle.repeats.proofs.leaf_again.Goals as goal
 -- `repeats::leaf_again` meets its contract.
 
 pub returns-then-index-before : goal.returns-then-index-before
-returns-then-index-before c = c.requires.leaf ∙ leaf-same _ _ _ _ _ _ (block_same c.args.bits c.args.index c.args.before _ c.mask.ensures c.if-index-before.true)
+returns-then-index-before c = c.requires ∙ leaf-same _ _ _ _ _ _ (block_same c.args.form.bits c.args.index c.args.before _ c.mask.ensures c.if-index-before.true)
