@@ -41,6 +41,7 @@ pub fn at<T: Copy>(s: &[T], n: usize, default: T) -> T
     s.get(n).copied().unwrap_or(default)
 }
 
+// By index: what `get_mut` of a slice lends says nothing of the elements afterwards.
 pub fn put_at(t: &mut [u32], n: usize, x: u32)
     ensures { t.new ≡ set t.old n x }
 {

@@ -82,6 +82,7 @@ pub fn tally_versions(versions: &[Version; VERSIONS], t: &mut [u32])
     }
 }
 
+// Not one with the above: over any iterator of versions it would be longer than both.
 #[tactic(auto, unfolding(audit_model::specs::Tallies::roots_tally), using(crate::proofs::Raising::roots_tally_more))]
 pub fn tally_walks(walks: Walks, t: &mut [u32])
     requires { Under (max_nodes + version_count) t.old }

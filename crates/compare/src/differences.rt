@@ -19,6 +19,7 @@ pub fn first_difference(cells: &[u32], form: Form, n: NodeNo, m: NodeNo, from: u
         return in_leaf(cells, form, n, m, from, to);
     }
     let mut i = from;
+    // No `for`: a turn goes on where the child ends.
     while i < to {
         let b = form.bucket(i);
         let x = lookup::cell_at(cells, n, b);

@@ -43,7 +43,7 @@ fn clear_walks(walk_numbers: &mut [u32], walk_nodes: &mut [u32], walk_indices: &
     walk_indices.fill(0);
 }
 
-// Sizes that don't fit are refused, and nothing is written.
+// Sizes that don't fit are refused, and nothing is written. Each slice by itself, as C lends them.
 pub fn form(
     kinds: &mut [u8],
     used: &mut [u8],

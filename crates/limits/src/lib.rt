@@ -80,7 +80,7 @@ pub const PROGRAM_NODES: usize = 256;
 
 // ---- what they are
 
-// All of the above, in their order.
+// All of the above, in their order: a constant has no contract of its own.
 pub fn all() -> [usize; 27]
     ensures { result ≡ max_nodes ∷ node_cells ∷ free_kind ∷ leaf_kind ∷ branch_kind
         ∷ last_party ∷ last_slot ∷ last_walk ∷ parties ∷ party_slots ∷ party_walks ∷ version_count ∷ walk_count ∷ host

@@ -10,7 +10,7 @@ ghost use Rattle.records.specs.Records.{record_of, live_version, lengthened};
 #[derive(Clone, Copy, PartialEq, Eq)]
 pub struct NodeNo(pub u32);
 
-// The number of a version slot among all 64: another kind of number than a node's.
+// The number of a version slot among all 64: another kind of number than a node's. Only the test that neither stands for the other makes one.
 #[derive(Clone, Copy, PartialEq, Eq)]
 pub struct SlotNo(pub u32);
 

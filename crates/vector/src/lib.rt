@@ -47,6 +47,7 @@ pub fn new_with_bits(store: &mut Store, bits: u32) -> Result<Edit, Refused>
     ensures same_slices { SameSlices store.old store.new }
     ensures called { called_of (held store.new) result ≡ new_call (held store.old) bits }
 {
+    // Two tests: that a range holds the bits was tried, and its proof stays open.
     let legal = (bits >= 1) & (bits <= MAX_BITS);
     if !legal {
         return Err(Refused::BadBits);
