@@ -1,18 +1,18 @@
 use native.Mathlib.Omega.{arith}
-use Rattle.batch.proofs.Batching.{ragged, no_room, ill-formed, can-run, served, reported}
+use Rattle.batch.proofs.Batching.{ragged, no_room, ill-formed, can-run, served}
 use Rattle.batch.proofs.batch.Goals as goal
 
 pub returns-then-asked-ne0 : goal.returns-then-asked-ne0
-returns-then-asked-ne0 c = reported _ _ _ _ _ _ _ _ _ _ _ _ c.args.versions _ _ _ c.report.ensures (ragged _ _ _ c.if-asked-ne0.true)
+returns-then-asked-ne0 c = rw c.refused.ensures (ragged _ _ _ c.if-asked-ne0.true)
 
 pub returns-then-room-answer_place : goal.returns-then-room-answer_place
-returns-then-room-answer_place c = reported _ _ _ _ _ _ _ _ _ _ _ _ c.args.versions _ _ _ c.report-then-room-answer_place.ensures (no_room _ _ _ c.if-asked-ne0.false (rw c.answer_place.ensures at c.if-room-answer_place.true))
+returns-then-room-answer_place c = rw c.refused-then-room-answer_place.ensures (no_room _ _ _ c.if-asked-ne0.false (rw c.answer_place.ensures at c.if-room-answer_place.true))
 
 pub returns-then-not-judged : goal.returns-then-not-judged
-returns-then-not-judged c = reported _ _ _ _ _ _ _ _ _ _ _ _ c.args.versions _ _ _ c.report-then-not-judged.ensures (ill-formed _ _ _ c.if-asked-ne0.false (rw c.answer_place.ensures at c.if-room-answer_place.false) _ _ c.audit-judged.ensures c.if-not-judged.true)
+returns-then-not-judged c = rw c.refused-then-not-judged.ensures (ill-formed _ _ _ c.if-asked-ne0.false (rw c.answer_place.ensures at c.if-room-answer_place.false) _ _ c.audit-judged.ensures c.if-not-judged.true)
 
 pub serve-r-requires : goal.serve-r-requires
 serve-r-requires c = can-run _ _ _ c.if-asked-ne0.false (rw c.answer_place.ensures at c.if-room-answer_place.false) _ _ c.audit-judged.ensures c.if-not-judged.false (omega arith)
 
 pub returns : goal.returns
-returns c = reported _ _ _ _ _ _ _ _ _ _ _ _ c.serve-r.result.versions _ _ _ c.report-2.ensures (served _ _ _ c.if-asked-ne0.false (rw c.answer_place.ensures at c.if-room-answer_place.false) _ _ c.audit-judged.ensures c.if-not-judged.false _ _ c.serve-r.ensures)
+returns c = served _ _ _ c.if-asked-ne0.false (rw c.answer_place.ensures at c.if-room-answer_place.false) _ _ c.audit-judged.ensures c.if-not-judged.false _ _ c.serve-r.ensures
