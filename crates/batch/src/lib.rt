@@ -1,7 +1,8 @@
 // Requests as a batch: audited once, then served in order. The version table goes by value.
 #![tactic(auto)]
 
-ghost use Rattle.std.specs.Prelude.{◌≡◌};
+ghost use Rattle.std.specs.Prelude.{◌≡◌, Err};
+ghost use Rattle.limits.specs.Refusals.{outcome_number};
 ghost use Rattle.records.specs.Records.{records_of};
 ghost use Rattle.store.specs.Store.{store_of};
 ghost use Rattle.walk.specs.Walk.{slices};
@@ -9,29 +10,27 @@ ghost use Rattle.std.specs.Option.{is_some, unwrap_or};
 ghost use Rattle.audit.specs.Audited.{Judged};
 ghost use Rattle.audit_reads.specs.Slices.{lent_from};
 ghost use Rattle.runs.specs.Runs.{run_of, progress, CanRun, run_from};
-ghost use Rattle.batch.specs.Batched.{Batches, batched_with};
+ghost use Rattle.batch.specs.Batched.{frames_of, Batches, batched_with};
 
 use audit_reads::{Lent, Nodes, Walks};
-use limits::numbers::{DONE, ILL_FORMED, NO_ROOM, RAGGED};
+use limits::numbers::Refusal;
 use limits::{FRAME_SIZE, VERSIONS};
 use records::Version;
 use runs::Ran;
 
-// What a batch reports, and the version records after it.
+// How many frames a batch ran, or why it was refused, and the version records after it.
 #[derive(Drop)]
 pub struct Batched {
-    pub number: u8,
-    pub frames: usize,
+    pub outcome: Result<usize, Refusal>,
     pub versions: [Version; VERSIONS],
 }
 
-fn report(number: u8, frames: usize, versions: [Version; VERSIONS]) -> Batched
-    ensures { result ≡ batched_with number frames versions }
+fn refused(refusal: Refusal, versions: [Version; VERSIONS]) -> Batched
+    ensures { result ≡ batched_with (Err refusal) versions }
 {
     Batched {
-        number: number,
-        frames: frames,
-        versions: versions,
+        outcome: Err(refusal),
+        versions,
     }
 }
 
@@ -117,15 +116,15 @@ pub fn batch(
         walk_numbers.old walk_nodes.old walk_indices.old)
         (lent_from kinds.new used.new counts.new cells.new order.new result.versions
         walk_numbers.new walk_nodes.new walk_indices.new)
-        requests.now room.old room.new result.number result.frames }
+        requests.now room.old room.new (outcome_number result.outcome) (frames_of result.outcome) }
 {
     let asked = requests.len();
     if asked % FRAME_SIZE != 0 {
-        return report(RAGGED, 0, versions);
+        return refused(Refusal::Ragged, versions);
     }
     let count = asked / FRAME_SIZE;
     if room.len() < requests::answer_place(count) {
-        return report(NO_ROOM, 0, versions);
+        return refused(Refusal::NoRoom, versions);
     }
     let Some(free) = audited(
         kinds,
@@ -138,7 +137,7 @@ pub fn batch(
         walk_nodes,
         walk_indices,
     ) else {
-        return report(ILL_FORMED, 0, versions);
+        return refused(Refusal::IllFormed, versions);
     };
     let r = serve(
         kinds,
@@ -155,6 +154,8 @@ pub fn batch(
         room,
         count,
     );
-    let after = r.versions;
-    report(DONE, count, after)
+    Batched {
+        outcome: Ok(count),
+        versions: r.versions,
+    }
 }

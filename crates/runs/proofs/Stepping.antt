@@ -15,7 +15,7 @@ use Rattle.meaning.specs.Operations.{giver, taker}
 use Rattle.records.specs.Records.{record_of, records_of}
 use Rattle.records.specs.declared.Version.{Version}
 use Rattle.store.specs.Store.{Store, node_count}
-use Rattle.requests.specs.Requests.{put, frame_in, answer_place}
+use Rattle.requests.specs.Requests.{answer_of, put, frame_in, answer_place}
 use Rattle.frames.specs.Run.{Run, version_in, source_in, target_in}
 use Rattle.frames.specs.Serve.{serve}
 use Rattle.served.specs.Acted.{acted_of}
@@ -115,7 +115,7 @@ module _ (s : Store) (table : List Version) (ws : WalkSlices) (f : Frame) (sourc
       (acts : with_walks (acted_of after r) walks_after
       ≡ turn s ws f (source_from f (record_of (get_or table source zeros))) (target_from f (record_of (get_or table target zeros))) (record_of (get_or table changed zeros))) where
     abbrev answer : Answer
-    answer = record { number = r.number; fresh = r.fresh; value = r.value }
+    answer = answer_of r.answer
 
     serves : Runs now → serve now f ≡ (run_of after (records_of (set table changed r.version)) walks_after, answer)
     serves k =

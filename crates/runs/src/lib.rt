@@ -13,7 +13,7 @@ ghost use Rattle.runs.specs.Runs.{Placed, source_from, target_from, run_of, prog
 
 use limits::{VERSIONS, operations};
 use records::{Supply, Version};
-use requests::{Answer, Frame};
+use requests::Frame;
 use served::Served;
 use walk::Walks;
 
@@ -169,12 +169,7 @@ pub fn run(
         let version = r.version;
         table[changed] = version;
         left = r.free;
-        let answer = Answer {
-            number: r.number,
-            fresh: r.fresh,
-            value: r.value,
-        };
-        requests::put_answer(room, k, answer);
+        requests::put_answer(room, k, r.answer);
         let there = table[source];
         k = repeat(cells, used, walks, f, there, requests, room, k + 1, count);
     }

@@ -14,7 +14,7 @@ use Rattle.meaning.specs.Serve.{refused}
 use Rattle.records.specs.Records.{record_of}
 use Rattle.records.specs.declared.Version.{Version}
 use Rattle.store.specs.Store.{Store}
-use Rattle.refusals.specs.Flags.{standing}
+use Rattle.refusals.specs.Uses.{standing}
 use Rattle.served.specs.Served.{refused_with}
 use Rattle.served.specs.Acted.{acted_of}
 use Rattle.served.specs.declared.Served.{Served}

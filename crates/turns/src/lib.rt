@@ -13,10 +13,11 @@ ghost use Rattle.calls.specs.Calls.{with_walks};
 ghost use Rattle.frames.specs.Run.{walk_place};
 ghost use Rattle.turns.specs.Turns.{place_of, changed_in, is_open_at, Turnable, turn};
 
-use limits::numbers::DONE;
+use limits::operations::Operation;
 use limits::words::PARTIES;
-use limits::{PARTY_SLOTS, PARTY_WALKS, WALK_NUMBERS, operations};
+use limits::{PARTY_SLOTS, PARTY_WALKS, WALK_NUMBERS};
 use records::{Supply, Version};
+use refusals::Standing;
 use requests::Frame;
 use served::Served;
 use store::Store;
@@ -51,7 +52,7 @@ pub fn version_or_empty(there: bool, v: Version) -> Version
 pub fn changed_place(f: Frame, source: usize, target: usize) -> usize
     ensures { result ≡ changed_in (frame_of f) source target }
 {
-    if f.operation == operations::RELEASE {
+    if f.operation == u8::from(Operation::Release) {
         return source;
     }
     target
@@ -93,11 +94,14 @@ pub fn serve(
         ≡ turn (store_of kinds.old used.old counts.old cells.old order.old supply.free)
         (walks_of walks.old) (frame_of f) (record_of v) (record_of w) (record_of old) }
 {
-    let used_walk = is_open(walks, refusals::giver(f), f.slot);
-    let opened_walk = is_open(walks, refusals::taker(f), f.destination);
-    let number = refusals::refusal(f, v.live == 1, w.live == 1, used_walk, opened_walk);
-    if number != DONE {
-        return served::refused(number, supply.free, old);
+    let standing = Standing {
+        source_live: v.live == 1,
+        target_live: w.live == 1,
+        walk_open: is_open(walks, refusals::giver(f), f.slot),
+        opened_open: is_open(walks, refusals::taker(f), f.destination),
+    };
+    if let Err(refusal) = refusals::check(f, standing) {
+        return served::refused(refusal, supply.free, old);
     }
     let mut store = Store {
         kinds,
