@@ -1,7 +1,5 @@
 -- What a refusal's number tells.
-use mathlib.Core.Path.{◌≡◌}
 use mathlib.Core.Logic.{◌≢◌}
-use native.Mathlib.Nat.{lt_irrefl}
 use native.Mathlib.Omega.{arith}
 use Rattle.meaning.specs.Limits.{done_number}
 use Rattle.limits.specs.Refusals.{number_of}
