@@ -9,7 +9,7 @@ invariant-loop-at l = record {
   same_slices : SameSlices l.initial.store l.store;
   sweeping : Sweeping l.at (held l.store);
   rest : sweep (length l.initial.store.order.now - l.at) (held l.store) l.at
-    ≡ sweep (length l.initial.store.order.now - l.initial.at) (held l.initial.store) l.initial.at;
+      ≡ sweep (length l.initial.store.order.now - l.initial.at) (held l.initial.store) l.initial.at;
 }
 
 abbrev pub decreases-loop-at : goal.decreases-loop-at
