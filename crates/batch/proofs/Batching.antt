@@ -120,6 +120,9 @@ pub reported : (s : Lent) (requests room room_after kinds used counts cells orde
     → Batches s (lent_from kinds used counts cells order r.versions numbers nodes indices) requests room room_after r.number r.frames
 reported s requests room room_after kinds used counts cells order numbers nodes indices vs n k r e b = rw e b
 
+pub moved : (s a b : Lent) (requests room room_after : List ℕ) (n k : ℕ) → a ≡ b → Batches s a requests room room_after n k → Batches s b requests room room_after n k
+moved s a b requests room room_after n k e h = rw (← e) h
+
 -- ---- walk records copied out and back
 
 module _ (s : Store) (vs : List VersionRecord) (requests room : List ℕ) (n : ℕ) (copied lent : WalkSlices) (e : copied ≡ lent) where

@@ -1,10 +1,13 @@
--- The state of the code as the run that its parts hold.
+-- The parts of the code's state as the run that they hold.
+use Rattle.std.specs.Prelude.{List}
 use Rattle.records.specs.Records.{records_of}
+use Rattle.records.specs.declared.Version.{Version}
 use Rattle.store.specs.Lent.{held}
+use Rattle.store.specs.declared.Store.{Store}
 use Rattle.walk.specs.Walk.{walks_of}
+use Rattle.walk.specs.declared.Walks.{Walks}
 use Rattle.frames.specs.Run.{Run}
 use Rattle.runs.specs.Runs.{run_of}
-use Rattle.runs.specs.declared.State.{State}
 
-abbrev pub state_of : State → Run
-state_of s = run_of (held s.store) (records_of s.versions) (walks_of s.walks)
+abbrev pub state_of : Store → List Version → Walks → Run
+state_of s vs ws = run_of (held s) (records_of vs) (walks_of ws)

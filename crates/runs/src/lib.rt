@@ -83,50 +83,53 @@ fn repeat(
 
 // ---- all frames
 
-// What frames are served on.
-#[derive(Drop)]
-pub struct State<'a> {
-    pub store: Store<'a>,
-    pub versions: [Version; VERSIONS],
-    pub walks: Walks,
+// What stands at the places is read and written, whether the frame's slots are there or not.
+fn serve(
+    store: &mut Store,
+    versions: &mut [Version; VERSIONS],
+    walks: &mut Walks,
+    f: Frame,
+    at: Places,
+) -> Answer
+    requires runs { Runs (state_of store.old versions.old walks.old) }
+    requires placed { Placed (frame_of f) at.source at.target at.changed }
+    ensures same_slices { SameSlices store.old store.new }
+    ensures served { (state_of store.new versions.new walks.new, answer_of result) ≡ serve (state_of store.old versions.old walks.old) (frame_of f) }
+{
+    let source_there = turns::is_slot(refusals::giver(f), f.slot);
+    let target_there = turns::is_slot(refusals::taker(f), f.destination);
+    let v = turns::version_or_empty(source_there, versions[at.source]);
+    let w = turns::version_or_empty(target_there, versions[at.target]);
+    let old = versions[at.changed];
+    let served = turns::serve(store, walks, f, v, w, old);
+    versions[at.changed] = served.version;
+    Answer {
+        number: served.number,
+        fresh: served.fresh,
+        value: served.value,
+    }
 }
 
-impl State<'_> {
-    // What stands at the places is read and written, whether the frame's slots are there or not.
-    fn serve(&mut self, f: Frame, at: Places) -> Answer
-        requires runs { Runs (state_of self.old) }
-        requires placed { Placed (frame_of f) at.source at.target at.changed }
-        ensures same_slices { SameSlices self.old.store self.new.store }
-        ensures served { (state_of self.new, answer_of result) ≡ serve (state_of self.old) (frame_of f) }
-    {
-        let source_there = turns::is_slot(refusals::giver(f), f.slot);
-        let target_there = turns::is_slot(refusals::taker(f), f.destination);
-        let v = turns::version_or_empty(source_there, self.versions[at.source]);
-        let w = turns::version_or_empty(target_there, self.versions[at.target]);
-        let old = self.versions[at.changed];
-        let served = turns::serve(&mut self.store, &mut self.walks, f, v, w, old);
-        self.versions[at.changed] = served.version;
-        Answer {
-            number: served.number,
-            fresh: served.fresh,
-            value: served.value,
-        }
-    }
-
-    pub fn run(&mut self, requests: &[u8], room: &mut [u8], count: usize)
-        requires { CanRun (state_of self.old) requests.now room.old count }
-        ensures same_slices { SameSlices self.old.store self.new.store }
-        ensures ran { progress (state_of self.new) room.new
-            ≡ run_from requests.now count (progress (state_of self.old) room.old) 0 }
-    {
-        let mut k = 0;
-        while k < count {
-            let f = requests::frame_at(requests, k);
-            let at = places_of(f);
-            let answer = self.serve(f, at);
-            requests::put_answer(room, k, answer);
-            let there = self.versions[at.source];
-            k = repeat(&self.store, &mut self.walks, f, there, requests, room, k + 1, count);
-        }
+pub fn run(
+    store: &mut Store,
+    versions: &mut [Version; VERSIONS],
+    walks: &mut Walks,
+    requests: &[u8],
+    room: &mut [u8],
+    count: usize,
+)
+    requires { CanRun (state_of store.old versions.old walks.old) requests.now room.old count }
+    ensures same_slices { SameSlices store.old store.new }
+    ensures ran { progress (state_of store.new versions.new walks.new) room.new
+        ≡ run_from requests.now count (progress (state_of store.old versions.old walks.old) room.old) 0 }
+{
+    let mut k = 0;
+    while k < count {
+        let f = requests::frame_at(requests, k);
+        let at = places_of(f);
+        let answer = serve(store, versions, walks, f, at);
+        requests::put_answer(room, k, answer);
+        let there = versions[at.source];
+        k = repeat(store, walks, f, there, requests, room, k + 1, count);
     }
 }
