@@ -44,7 +44,7 @@ sign-again after = refl
 module _ (r : Run) (f : Frame) where
   -- nothing but the answer
   abbrev told : Served → Acted
-  told x = acted r.store (old_in r f) (record { number = x.number; fresh = x.fresh; value = x.value })
+  told x = acted r.store (old_in r f) (record { number = x.answer.number; fresh = x.answer.fresh; value = x.answer.value })
 
   item-turns : (v : VersionRecord) (i : ℕ) (d : model.Served) (b : Bool) → (b ≡ true → v.length ≤ i) → (b ≡ false → i < v.length) → d ≡ answers r (item_at r v i)
       → respond (cond b 8 0) r d ≡ turned r f (with_walks (told (got_with (got r.store.nodes.cells (code_record v) i) r.store.free (code_record (old_in r f)))) r.walks)

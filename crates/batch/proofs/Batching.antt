@@ -27,8 +27,7 @@ use Rattle.serving.specs.Lending.{after_all, replies, free_at}
 use Rattle.serving.proofs.Demands.{demand2}
 use Rattle.runs.specs.Runs.{run_of, Progress, progress, run_from, CanRun}
 use Rattle.runs.proofs.All.{run-all}
-use Rattle.batch.specs.Batched.{all_frames, state_after, Batches, batched_with}
-use Rattle.batch.specs.declared.Batched.{Batched}
+use Rattle.batch.specs.Batched.{all_frames, state_after, Batches}
 
 -- ---- one proposition, one boolean
 
@@ -115,10 +114,11 @@ module _ (s : Lent) (requests room : List ℕ) where
 
 -- ---- what is reported
 
-pub reported : (s : Lent) (requests room room_after kinds used counts cells order : List ℕ) (numbers nodes : List ℕ) (indices : List ℤ) (vs : List Version) (n k : ℕ) (r : Batched)
-    → r ≡ batched_with n k vs → Batches s (lent_from kinds used counts cells order vs numbers nodes indices) requests room room_after n k
-    → Batches s (lent_from kinds used counts cells order r.versions numbers nodes indices) requests room room_after r.number r.frames
-reported s requests room room_after kinds used counts cells order numbers nodes indices vs n k r e b = rw e b
+pub moved : (s a b : Lent) (requests room room_after : List ℕ) (n k : ℕ) → a ≡ b → Batches s a requests room room_after n k → Batches s b requests room room_after n k
+moved s a b requests room room_after n k e h = rw (← e) h
+
+pub moved : (s a b : Lent) (requests room room_after : List ℕ) (n k : ℕ) → a ≡ b → Batches s a requests room room_after n k → Batches s b requests room room_after n k
+moved s a b requests room room_after n k e h = rw (← e) h
 
 -- ---- walk records copied out and back
 

@@ -1,17 +1,23 @@
 -- What a batch promises: of any bytes as lent state, requests and answer room.
-use Rattle.std.specs.Prelude.{◌≡◌, ◌↔◌, Bool, true, List, ℕ, zero, suc, ◌/◌, length}
+use Rattle.std.specs.Prelude.{◌≡◌, ◌↔◌, Bool, true, List, ℕ, zero, suc, ◌/◌, length, Result, Ok, Err}
 use Rattle.meaning.specs.Limits.{frame_size}
 use Rattle.meaning.specs.Lent.{Lent}
 use Rattle.meaning.specs.WellFormed.{WellFormed}
 use Rattle.meaning.specs.Stands.{table_of}
 use Rattle.meaning.specs.Frames.{Frame}
 use Rattle.meaning.specs.Batch.{batch}
+use Rattle.limits.specs.declared.numbers.Refusal.{Refusal}
 use Rattle.records.specs.declared.Version.{Version}
 use Rattle.serving.specs.Lending.{after_all, frames_in, free_at}
 use Rattle.batch.specs.declared.Batched.{Batched}
 
-abbrev pub batched_with : (number frames : ℕ) → List Version → Batched
-batched_with n k vs = record { number = n; frames = k; versions = vs }
+abbrev pub batched_with : Result ℕ Refusal → List Version → Batched
+batched_with r vs = record { outcome = r; versions = vs }
+
+-- a batch that is refused reports no frame
+abbrev pub frames_of : Result ℕ Refusal → ℕ
+frames_of (Ok frames) = frames
+frames_of (Err refusal) = 0
 
 -- the frames of the request bytes
 abbrev pub all_frames : (requests : List ℕ) → List Frame

@@ -1,70 +1,33 @@
 // Requests as a batch: audited once, then served in order. The version table goes by value.
 #![tactic(auto)]
 
-ghost use Rattle.std.specs.Prelude.{◌≡◌};
-ghost use Rattle.records.specs.Records.{records_of};
-ghost use Rattle.store.specs.Store.{store_of};
-ghost use Rattle.walk.specs.Walk.{slices};
+ghost use Rattle.std.specs.Prelude.{◌≡◌, Err};
+ghost use Rattle.limits.specs.Refusals.{outcome_number};
 ghost use Rattle.std.specs.Option.{is_some, unwrap_or};
 ghost use Rattle.audit.specs.Audited.{Judged};
 ghost use Rattle.audit_reads.specs.Slices.{lent_from};
-ghost use Rattle.runs.specs.Runs.{run_of, progress, CanRun, run_from};
-ghost use Rattle.batch.specs.Batched.{Batches, batched_with};
+ghost use Rattle.batch.specs.Batched.{frames_of, Batches, batched_with};
 
 use audit_reads::{Lent, Nodes, Walks};
-use limits::numbers::{DONE, ILL_FORMED, NO_ROOM, RAGGED};
+use limits::numbers::Refusal;
 use limits::{FRAME_SIZE, VERSIONS};
 use records::Version;
-use runs::Ran;
+use store::Store;
 
-// What a batch reports, and the version records after it.
+// How many frames a batch ran, or why it was refused, and the version records after it.
 #[derive(Drop)]
 pub struct Batched {
-    pub number: u8,
-    pub frames: usize,
+    pub outcome: Result<usize, Refusal>,
     pub versions: [Version; VERSIONS],
 }
 
-fn report(number: u8, frames: usize, versions: [Version; VERSIONS]) -> Batched
-    ensures { result ≡ batched_with number frames versions }
+fn refused(refusal: Refusal, versions: [Version; VERSIONS]) -> Batched
+    ensures { result ≡ batched_with (Err refusal) versions }
 {
     Batched {
-        number: number,
-        frames: frames,
-        versions: versions,
+        outcome: Err(refusal),
+        versions,
     }
-}
-
-// The frames on a state that is well-formed, its walk records copied out and back.
-fn serve(
-    kinds: &mut [u8],
-    used: &mut [u8],
-    counts: &mut [u32],
-    cells: &mut [u32],
-    order: &mut [u32],
-    walk_numbers: &mut [u32],
-    walk_nodes: &mut [u32],
-    walk_indices: &mut [i32],
-    free: usize,
-    versions: [Version; VERSIONS],
-    requests: &[u8],
-    room: &mut [u8],
-    count: usize,
-) -> Ran
-    requires { CanRun (run_of (store_of kinds.old used.old counts.old cells.old order.old free) (records_of versions) (slices walk_numbers.old walk_nodes.old walk_indices.old))
-        requests.now room.old count }
-    ensures { progress (run_of (store_of kinds.new used.new counts.new cells.new order.new result.free)
-        (records_of result.versions) (slices walk_numbers.new walk_nodes.new walk_indices.new)) room.new
-        ≡ run_from requests.now count
-        (progress (run_of (store_of kinds.old used.old counts.old cells.old order.old free)
-        (records_of versions) (slices walk_numbers.old walk_nodes.old walk_indices.old)) room.old) 0 }
-{
-    let mut walks = walk_copies::load(walk_numbers, walk_nodes, walk_indices);
-    let r = runs::run(
-        kinds, used, counts, cells, order, &mut walks, free, versions, requests, room, count,
-    );
-    walk_copies::store(&walks, walk_numbers, walk_nodes, walk_indices);
-    r
 }
 
 // The audit of the slices, which are lent for it as one. Where they are lent on as `&mut` too, this gets no proof.
@@ -117,15 +80,15 @@ pub fn batch(
         walk_numbers.old walk_nodes.old walk_indices.old)
         (lent_from kinds.new used.new counts.new cells.new order.new result.versions
         walk_numbers.new walk_nodes.new walk_indices.new)
-        requests.now room.old room.new result.number result.frames }
+        requests.now room.old room.new (outcome_number result.outcome) (frames_of result.outcome) }
 {
     let asked = requests.len();
     if asked % FRAME_SIZE != 0 {
-        return report(RAGGED, 0, versions);
+        return refused(Refusal::Ragged, versions);
     }
     let count = asked / FRAME_SIZE;
     if room.len() < requests::answer_place(count) {
-        return report(NO_ROOM, 0, versions);
+        return refused(Refusal::NoRoom, versions);
     }
     let Some(free) = audited(
         kinds,
@@ -138,23 +101,22 @@ pub fn batch(
         walk_nodes,
         walk_indices,
     ) else {
-        return report(ILL_FORMED, 0, versions);
+        return refused(Refusal::IllFormed, versions);
     };
-    let r = serve(
+    let mut store = Store {
         kinds,
         used,
         counts,
         cells,
         order,
-        walk_numbers,
-        walk_nodes,
-        walk_indices,
-        free as usize,
-        versions,
-        requests,
-        room,
-        count,
-    );
-    let after = r.versions;
-    report(DONE, count, after)
+        free: free as usize,
+    };
+    let mut walks = walk_copies::load(walk_numbers, walk_nodes, walk_indices);
+    let mut table = versions;
+    runs::run(&mut store, &mut table, &mut walks, requests, room, count);
+    walk_copies::store(&walks, walk_numbers, walk_nodes, walk_indices);
+    Batched {
+        outcome: Ok(count),
+        versions: table,
+    }
 }

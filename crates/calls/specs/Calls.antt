@@ -7,6 +7,7 @@ use Rattle.shape.specs.Legal.{Legal}
 use Rattle.records.specs.declared.Version.{Version}
 use Rattle.store.specs.Store.{Store}
 use Rattle.vector.specs.Ready.{Steady}
+use Rattle.requests.specs.Requests.{answer_of}
 use Rattle.served.specs.Acted.{Acted}
 use Rattle.edits.specs.Edits.{Able, released_act, edit_act}
 use Rattle.calls.specs.Reads.{sourced, read_with}
@@ -41,7 +42,7 @@ pub record Serviceable (s : Store) (ws : WalkSlices) (f : Frame) (v w : VersionR
 unfoldable pub read_act : Store → Frame → (source other old : VersionRecord) → Acted
 read_act s f v w old =
     let r = read_with s.nodes.cells s.free f (code_record v) (code_record w) (code_record old) in
-    walks.acted s old (record { number = r.number; fresh = r.fresh; value = r.value })
+    walks.acted s old (answer_of r.answer)
 
 unfoldable pub store_act : Store → Frame → (source other old : VersionRecord) → Acted
 store_act s f v w old =

@@ -4,12 +4,13 @@
 ghost use Rattle.std.specs.Prelude.{◌≡◌, ◌≤◌, pos, length, replicate};
 ghost use Rattle.meaning.specs.Limits.{max_nodes};
 ghost use Rattle.meaning.specs.Fresh.{down_from};
+ghost use Rattle.limits.specs.Refusals.{outcome_number};
 ghost use Rattle.audit_reads.specs.Slices.{lent_from};
 ghost use Rattle.form.specs.Forms.{zeros, Forms};
 
 use audit_compare::Lengths;
 use limits::VERSIONS;
-use limits::numbers::{DONE, ILL_FORMED};
+use limits::numbers::Refusal;
 use records::Version;
 
 // Every node into the order, the last first.
@@ -54,12 +55,12 @@ pub fn form(
     walk_numbers: &mut [u32],
     walk_nodes: &mut [u32],
     walk_indices: &mut [i32],
-) -> u8
+) -> Result<(), Refusal>
     ensures { Forms
         (lent_from kinds.old used.old counts.old cells.now order.old versions.old
         walk_numbers.old walk_nodes.old walk_indices.old)
         (lent_from kinds.new used.new counts.new cells.now order.new versions.new
-        walk_numbers.new walk_nodes.new walk_indices.new) result }
+        walk_numbers.new walk_nodes.new walk_indices.new) (outcome_number result) }
 {
     let lengths = Lengths {
         kinds: kinds.len(),
@@ -73,10 +74,10 @@ pub fn form(
     };
     let fit = lengths.fit() & (versions.len() == VERSIONS);
     if !fit {
-        return ILL_FORMED;
+        return Err(Refusal::IllFormed);
     }
     clear_nodes(kinds, used, counts, order);
     versions.fill(Version::empty());
     clear_walks(walk_numbers, walk_nodes, walk_indices);
-    DONE
+    Ok(())
 }

@@ -2,15 +2,16 @@
 #![tactic(auto)]
 
 ghost use Rattle.std.specs.Prelude.{◌≡◌};
+ghost use Rattle.limits.specs.Refusals.{outcome_number};
 ghost use Rattle.lending.specs.Lending.{RightSizes};
 ghost use Rattle.audit_reads.specs.Slices.{lent_from};
 ghost use Rattle.form.specs.Forms.{Forms};
-ghost use Rattle.batch.specs.Batched.{Batches};
+ghost use Rattle.batch.specs.Batched.{frames_of, Batches};
 ghost use Rattle.host.specs.Reports.{reported_with, BatchesOf};
 
 use lending::Sizes;
 use limits::VERSIONS;
-use limits::numbers::DONE;
+use limits::numbers::{Refusal, of_outcome};
 use records::Version;
 use version_table::{store_table, table_of};
 
@@ -30,17 +31,17 @@ pub struct Done {
     pub versions: [Version; VERSIONS],
 }
 
-fn done_with(number: u8, frames: usize, versions: [Version; VERSIONS]) -> Done
-    ensures { result ≡ reported_with number frames versions }
+fn done_with(outcome: Result<usize, Refusal>, versions: [Version; VERSIONS]) -> Done
+    ensures { result ≡ reported_with (outcome_number outcome) (frames_of outcome) versions }
 {
     let report = Report {
-        number: number as u32,
-        frames: frames,
+        number: u32::from(of_outcome(outcome)),
+        frames: outcome.unwrap_or(0),
     };
     Done {
-        report: report,
-        stores: number == DONE,
-        versions: versions,
+        report,
+        stores: outcome.is_ok(),
+        versions,
     }
 }
 
@@ -69,7 +70,7 @@ pub fn jumperloft1_form(
         (lent_from kinds.new used.new counts.new cells.now order.new versions.new
         walk_numbers.new walk_nodes.new walk_indices.new) result.number × (result.frames ≡ 0) }
 {
-    let number = form::form(
+    let formed = form::form(
         kinds,
         used,
         counts,
@@ -81,7 +82,7 @@ pub fn jumperloft1_form(
         walk_indices,
     );
     Report {
-        number: number as u32,
+        number: u32::from(of_outcome(formed)),
         frames: 0,
     }
 }
@@ -109,8 +110,8 @@ fn batch_table(
         requests.now room.old room.new result }
 {
     if count != VERSIONS {
-        let number = lending::refusal_of_sizes(requests.len(), room.len());
-        return done_with(number, 0, versions);
+        let refusal = lending::refusal_of_sizes(requests.len(), room.len());
+        return done_with(Err(refusal), versions);
     }
     let r = batch::batch(
         kinds,
@@ -125,8 +126,7 @@ fn batch_table(
         requests,
         room,
     );
-    let table = r.versions;
-    done_with(r.number, r.frames, table)
+    done_with(r.outcome, r.versions)
 }
 
 // The frames of the requests, each answered at its 6 bytes of the room. A batch that is refused writes nothing.

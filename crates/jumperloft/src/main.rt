@@ -2,12 +2,8 @@
 #![tactic(auto)]
 
 ghost use Rattle.std.specs.Prelude.{◌≤◌};
-ghost use Rattle.meaning.specs.Limits.{program_nodes};
-ghost use Rattle.records.specs.Records.{records_of};
-ghost use Rattle.store.specs.Store.{store_of};
-ghost use Rattle.walk.specs.Walk.{walks_of};
-ghost use Rattle.runs.specs.Runs.{run_of};
 ghost use Rattle.serving.specs.States.{Runs};
+ghost use Rattle.runs.specs.States.{state_of};
 
 use conversation::PIECE;
 use hexadecimal::PRINTED_SIZE;
@@ -15,6 +11,7 @@ use limits::{NODE_CELLS, PROGRAM_NODES, VERSIONS};
 use lines::Begun;
 use records::Version;
 use std::io::{self, Read, Write};
+use store::Store;
 use walk::Walks;
 
 // The cells of the program's nodes.
@@ -36,42 +33,22 @@ fn read_piece(rt: &HostRuntime, piece: &mut [u8; PIECE]) -> usize
 // Answers the lines of each read as they come to an end. A proved loop has to end, so this one ends after a number of reads that no run uses up.
 fn answer_all(
     rt: &HostRuntime,
-    kinds: &mut [u8; PROGRAM_NODES],
-    used: &mut [u8; PROGRAM_NODES],
-    counts: &mut [u32; PROGRAM_NODES],
-    cells: &mut [u32; CELLS],
-    order: &mut [u32; PROGRAM_NODES],
+    store: &mut Store,
+    versions: &mut [Version; VERSIONS],
     walks: &mut Walks,
-    versions: [Version; VERSIONS],
 ) -> io::Result<()>
-    requires { Runs (run_of (store_of kinds.old used.old counts.old cells.old order.old program_nodes) (records_of versions) (walks_of walks.old)) }
+    requires { Runs (state_of store.old versions.old walks.old) }
 {
     let mut begun = Begun::new();
     let mut piece = [0u8; PIECE];
     let mut out = [0u8; OUT];
-    let mut table = versions;
-    let mut free = PROGRAM_NODES;
     for _ in 0..u64::MAX {
         let n = read_piece(rt, &mut piece);
         if n == 0 {
             break;
         }
-        let talked = conversation::talk(
-            kinds,
-            used,
-            counts,
-            cells,
-            order,
-            walks,
-            free,
-            table,
-            &piece[..n],
-            &mut begun,
-            &mut out,
-        );
-        table = talked.versions;
-        free = talked.free;
-        rt.stdout().write_all(&out[..talked.written])?;
+        let written = conversation::talk(store, versions, walks, &piece[..n], &mut begun, &mut out);
+        rt.stdout().write_all(&out[..written])?;
     }
     if begun.len > 0 {
         rt.stdout().write_all(&LAST_ANSWER)?;
@@ -87,7 +64,7 @@ fn main(rt: HostRuntime) {
     let mut order = [0u32; PROGRAM_NODES];
     let mut walks = Walks::all_closed();
     let mut versions = [Version::empty(); VERSIONS];
-    form::form(
+    let _ = form::form(
         &mut kinds,
         &mut used,
         &mut counts,
@@ -98,15 +75,14 @@ fn main(rt: HostRuntime) {
         &mut walks.levels.nodes,
         &mut walks.levels.indices,
     );
+    let mut store = Store {
+        kinds: &mut kinds,
+        used: &mut used,
+        counts: &mut counts,
+        cells: &mut cells,
+        order: &mut order,
+        free: PROGRAM_NODES,
+    };
     // Where the answers can't be written, nobody is left to tell.
-    let _ = answer_all(
-        &rt,
-        &mut kinds,
-        &mut used,
-        &mut counts,
-        &mut cells,
-        &mut order,
-        &mut walks,
-        versions,
-    );
+    let _ = answer_all(&rt, &mut store, &mut versions, &mut walks);
 }

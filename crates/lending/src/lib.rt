@@ -1,10 +1,11 @@
-// How much a host lends, and the number of a batch that lends too much or too little.
+// How much a host lends, and why a batch is refused that lends too much or too little.
 #![tactic(auto)]
 
 ghost use Rattle.std.specs.Prelude.{◌≡◌};
+ghost use Rattle.limits.specs.Refusals.{number_of};
 ghost use Rattle.lending.specs.Lending.{RightSizes, refusal_of};
 
-use limits::numbers::{ILL_FORMED, NO_ROOM, RAGGED};
+use limits::numbers::Refusal;
 use limits::{ALL_NUMBERS, FRAME_SIZE, MAX_NODES, NODE_CELLS, PLACES, VERSIONS};
 
 // How many elements each slice has.
@@ -42,15 +43,15 @@ pub fn sizes_of(nodes: usize) -> Sizes
     }
 }
 
-// The number of a batch whose table has another length.
-pub fn refusal_of_sizes(asked: usize, room: usize) -> u8
-    ensures { result ≡ refusal_of asked room }
+// Why a batch is refused whose table has another length.
+pub fn refusal_of_sizes(asked: usize, room: usize) -> Refusal
+    ensures { number_of result ≡ refusal_of asked room }
 {
     if asked % FRAME_SIZE != 0 {
-        return RAGGED;
+        return Refusal::Ragged;
     }
     if room < requests::answer_place(asked / FRAME_SIZE) {
-        return NO_ROOM;
+        return Refusal::NoRoom;
     }
-    ILL_FORMED
+    Refusal::IllFormed
 }

@@ -73,7 +73,7 @@ pub const FRAME_SIZE: usize = 12;
 
 pub const ANSWER_SIZE: usize = 6;
 
-pub const LAST_OPERATION: u8 = operations::COMPARE;
+pub const LAST_OPERATION: u8 = operations::Operation::Compare as u8;
 
 // The nodes of the program's state.
 pub const PROGRAM_NODES: usize = 256;

@@ -10,7 +10,7 @@ ghost use Rattle.lines.specs.Printing.{CanPrintLine, PrintsLine, CanPrint, Print
 
 use hexadecimal::{LINE_FEED, LINE_SIZE, PRINTED_SIZE};
 use limits::ANSWER_SIZE;
-use limits::numbers::NOT_A_FRAME;
+use limits::numbers::Refusal;
 
 // Kept as the length of any longer line.
 const TOO_LONG: usize = LINE_SIZE + 1;
@@ -31,7 +31,7 @@ fn print_line(mark: u8, answers: &[u8], frames: usize, out: &mut [u8], at: usize
         hexadecimal::print_answer(&answers[start..end], out, at);
         return frames + 1;
     }
-    let refused: [u8; ANSWER_SIZE] = [NOT_A_FRAME, 0, 0, 0, 0, 0];
+    let refused: [u8; ANSWER_SIZE] = [u8::from(Refusal::NotAFrame), 0, 0, 0, 0, 0];
     hexadecimal::print_answer(&refused, out, at);
     frames
 }

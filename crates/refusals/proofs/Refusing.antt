@@ -1,35 +1,111 @@
--- The flags of an operation say of its fields what the checks 1 to 6 ask.
-use mathlib.Core.Path.{◌≡◌, refl, sym, ap, ◌∙◌}
-use mathlib.Core.Bool.{Bool, cond, not, ◌&&◌, ◌||◌}
-use mathlib.Core.List.{[], ◌∷◌, map}
-use Prim.Native.Nat.{ℕ, zero, suc, ◌+◌, ◌≤◌}
+-- What an operation uses says of its fields what the checks 1 to 6 ask.
+use mathlib.Core.Path.{◌≡◌, refl, ◌∙◌}
+use mathlib.Core.Bool.{cond, not, ◌&&◌}
+use mathlib.Core.List.{[], ◌∷◌}
+use Prim.Native.Nat.{ℕ, zero, suc, ◌≤◌, ◌<◌}
 use mathlib.Core.Logic.{◌≢◌}
 use native.Mathlib.Nat.{lt_irrefl}
 use native.Mathlib.Omega.{arith}
-use borrow.Author.Tests.{ne_eqb}
-use lib.Dec.{ltb, eqb}
-use lib.Bits.{bit_and}
-use lib.ListN.{length, get_or, get_or-map, get_or-eq_default}
-use Rattle.meaning.specs.Limits.{last_party, last_slot, last_walk, host, hand_over_code, last_operation, done_number, no_party_number, no_operation_number, host_only_number, out_of_range_number, empty_source_number, live_target_number}
+use borrow.Author.Tests.{ne_eqb, lt-ltb, le-ltb}
+use lib.Dec.{eqb}
+use lib.ListN.{get_or}
+use Rattle.meaning.specs.Limits.{last_party, host, hand_over_code, last_operation, no_party_number, no_operation_number, host_only_number, out_of_range_number, empty_source_number, live_target_number}
 use Rattle.meaning.specs.Frames.{Frame}
 use Rattle.meaning.specs.Operations.{Op, new, clone, release, len, get, set_at, push_back, drop_last, open_walk, next, next_back, close_walk, hand_over, free_nodes, first, last, compare, unknown, operations, op_of, anyone, host_alone, uses, owner_or, giver, taker}
-use Rattle.meaning.specs.Checks.{Standing, no_fault, faults, any_field, ◌if◌, entry_checks, first_of}
+use Rattle.meaning.specs.Checks.{no_fault, faults, any_field, ◌if◌, entry_checks, first_of}
 use Rattle.meaning.proofs.Booleans.{or-none}
-use Rattle.refusals.specs.Flags.{source_flag, walked_flag, filled_flag, opened_flag, other_flag, owners_flag, host_alone_flag, flag_of, flags_of}
+use Rattle.limits.specs.Operations.{code_of, op_named}
+use Rattle.limits.specs.declared.operations.Operation.{Operation}
+use Rattle.limits.specs.declared.operations.Operation.TheVariants.{New, Clone, Release, Len, Get, Set, PushBack, DropLast, OpenWalk, Next, NextBack, CloseWalk, HandOver, FreeNodes, First, Last, Compare}
+use Rattle.refusals.specs.Uses.{standing_of, uses_in, later_number}
+use Rattle.refusals.specs.declared.Standing.{Standing}
 
--- ---- the table of flags
+-- ---- the operation of a frame
 
-pub flags-listed : (f : Frame) → get_or (map flags_of operations) f.operation (flags_of unknown) ≡ flags_of (op_of f)
+op-listed : (o : Operation) → get_or operations (code_of o) unknown ≡ op_named o
+unfolding operations
+op-listed New = refl
+op-listed Clone = refl
+op-listed Release = refl
+op-listed Len = refl
+op-listed Get = refl
+op-listed Set = refl
+op-listed PushBack = refl
+op-listed DropLast = refl
+op-listed OpenWalk = refl
+op-listed Next = refl
+op-listed NextBack = refl
+op-listed CloseWalk = refl
+op-listed HandOver = refl
+op-listed FreeNodes = refl
+op-listed First = refl
+op-listed Last = refl
+op-listed Compare = refl
+
+pub op-is : (f : Frame) (o : Operation) → code_of o ≡ f.operation → op_of f ≡ op_named o
 unfolding op_of
-flags-listed f = get_or-map flags_of operations f.operation unknown
+op-is f o e = rw (← e) (op-listed o)
 
-pub flags-unlisted : (f : Frame) → length operations ≤ f.operation → flags_of unknown ≡ flags_of (op_of f)
-unfolding op_of
-flags-unlisted f h = ap flags_of (sym (get_or-eq_default operations unknown h))
+code-small : (o : Operation) → code_of o ≤ last_operation
+code-small New = omega arith
+code-small Clone = omega arith
+code-small Release = omega arith
+code-small Len = omega arith
+code-small Get = omega arith
+code-small Set = omega arith
+code-small PushBack = omega arith
+code-small DropLast = omega arith
+code-small OpenWalk = omega arith
+code-small Next = omega arith
+code-small NextBack = omega arith
+code-small CloseWalk = omega arith
+code-small HandOver = omega arith
+code-small FreeNodes = omega arith
+code-small First = omega arith
+code-small Last = omega arith
+code-small Compare = omega arith
 
--- one of a mask's flags is set
-abbrev has : (flags mask : ℕ) → Bool
-has u m = not (eqb (bit_and u m) 0)
+-- ---- the checks
+
+later-checks : (o : Op) (f : Frame) (s : Standing)
+    → later_number (uses_in o) f s
+    ≡ first_of ((host_only_number if (uses o).host_only && not (eqb f.party host))
+    ∷ (out_of_range_number if any_field (uses o) f (standing_of s) (λ y. y.out_of_range))
+    ∷ (empty_source_number if any_field (uses o) f (standing_of s) (λ y. y.empty_source))
+    ∷ (live_target_number if any_field (uses o) f (standing_of s) (λ y. y.live_target))
+    ∷ [])
+unfolding first_of ◌if◌ any_field faults no_fault uses anyone host_alone
+later-checks new f s = simp or-none
+later-checks clone f s = simp or-none
+later-checks release f s = simp or-none
+later-checks len f s = simp or-none
+later-checks get f s = simp or-none
+later-checks set_at f s = simp or-none
+later-checks push_back f s = simp or-none
+later-checks drop_last f s = simp or-none
+later-checks open_walk f s = simp or-none
+later-checks next f s = simp or-none
+later-checks next_back f s = simp or-none
+later-checks close_walk f s = simp or-none
+later-checks hand_over f s = simp or-none
+later-checks free_nodes f s = refl
+later-checks first f s = simp or-none
+later-checks last f s = simp or-none
+later-checks compare f s = simp or-none
+later-checks unknown f s = refl
+
+module _ (f : Frame) (s : Standing) where
+  pub no-party : last_party < f.party → no_party_number ≡ first_of (entry_checks (op_of f) f (standing_of s))
+  unfolding first_of ◌if◌ entry_checks
+  no-party h = rw (lt-ltb last_party f.party h)
+
+  pub no-operation : f.party ≤ last_party → last_operation < f.operation → no_operation_number ≡ first_of (entry_checks (op_of f) f (standing_of s))
+  unfolding first_of ◌if◌ entry_checks
+  no-operation l h = rw (le-ltb last_party f.party l, lt-ltb last_operation f.operation h)
+
+  pub later : (o : Operation) → f.party ≤ last_party → code_of o ≡ f.operation → later_number (uses_in (op_named o)) f s ≡ first_of (entry_checks (op_of f) f (standing_of s))
+  unfolding first_of ◌if◌ entry_checks
+  later o l e = rw (le-ltb last_party f.party l, ← e, le-ltb last_operation (code_of o) (code-small o), e, op-is f o e) (later-checks (op_named o) f s)
 
 -- ---- whose slots and walks
 
@@ -63,81 +139,3 @@ giver-is f r h = h ∙ (owners f.operation f.index f.party).0
 pub taker-is : (f : Frame) (r : ℕ) → r ≡ cond (eqb f.operation hand_over_code) f.value f.party → r ≡ taker f
 unfolding taker op_of
 taker-is f r h = h ∙ (owners f.operation f.value f.party).1
-
--- ---- the checks
-
-abbrev read_flag : ℕ
-read_flag = source_flag + walked_flag
-
-abbrev changed_flag : ℕ
-changed_flag = filled_flag + opened_flag
-
--- the last slot or walk that a field can name, by the flag of walks in that field
-abbrev last_by : (flags walk : ℕ) → ℕ
-last_by u m = cond (has u m) last_walk last_slot
-
--- whether the slot or the walk that a field names is live or open
-abbrev stands_by : (flags walk : ℕ) (opened live : Bool) → Bool
-stands_by u m opened live = cond (has u m) opened live
-
-abbrev host_only : (flags : ℕ) → Frame → Bool
-host_only u f = has u host_alone_flag && not (eqb f.party host)
-
-abbrev out_of_range : (flags last_read last_changed : ℕ) → Frame → Bool
-out_of_range u s d f =
-    (has u read_flag && ltb s f.slot)
-    || ((has u changed_flag || has u other_flag) && ltb d f.destination)
-    || (has u owners_flag && ltb last_party f.index)
-    || (has u owners_flag && ltb last_party f.value)
-
-abbrev empty_source : (flags : ℕ) (live other_live : Bool) → Bool
-empty_source u live other_live = (has u read_flag && not live) || (has u other_flag && not other_live)
-
-abbrev live_target : (flags : ℕ) (live : Bool) → Bool
-live_target u live = has u changed_flag && live
-
-flag-checks : (o : Op) (f : Frame) (x : Standing)
-    → (let u = flags_of o in
-    (no_party_number if ltb last_party f.party)
-    ∷ (no_operation_number if ltb last_operation f.operation)
-    ∷ (host_only_number if host_only u f)
-    ∷ (out_of_range_number if out_of_range u (last_by u walked_flag) (last_by u opened_flag) f)
-    ∷ (empty_source_number if empty_source u (stands_by u walked_flag x.walk_open x.source_live) x.target_live)
-    ∷ (live_target_number if live_target u (stands_by u opened_flag x.opened_open x.target_live))
-    ∷ [])
-    ≡ entry_checks o f x
-unfolding entry_checks any_field faults no_fault flags_of flag_of uses anyone host_alone
-flag-checks new f x = simp or-none
-flag-checks clone f x = simp or-none
-flag-checks release f x = simp or-none
-flag-checks len f x = simp or-none
-flag-checks get f x = simp or-none
-flag-checks set_at f x = simp or-none
-flag-checks push_back f x = simp or-none
-flag-checks drop_last f x = simp or-none
-flag-checks open_walk f x = simp or-none
-flag-checks next f x = simp or-none
-flag-checks next_back f x = simp or-none
-flag-checks close_walk f x = simp or-none
-flag-checks hand_over f x = simp or-none
-flag-checks free_nodes f x = simp or-none
-flag-checks first f x = simp or-none
-flag-checks last f x = simp or-none
-flag-checks compare f x = simp or-none
-flag-checks unknown f x = simp or-none
-
-pub refusal_is : (f : Frame) (x : Standing) (u s d r₆ r₅ r₄ r₃ r₂ r₁ : ℕ) (live filled : Bool) → u ≡ flags_of (op_of f)
-    → s ≡ last_by u walked_flag
-    → d ≡ last_by u opened_flag
-    → live ≡ stands_by u walked_flag x.walk_open x.source_live
-    → filled ≡ stands_by u opened_flag x.opened_open x.target_live
-    → r₆ ≡ cond (live_target u filled) live_target_number done_number
-    → r₅ ≡ cond (empty_source u live x.target_live) empty_source_number r₆
-    → r₄ ≡ cond (out_of_range u s d f) out_of_range_number r₅
-    → r₃ ≡ cond (host_only u f) host_only_number r₄
-    → r₂ ≡ cond (ltb last_operation f.operation) no_operation_number r₃
-    → r₁ ≡ cond (ltb last_party f.party) no_party_number r₂
-    → r₁ ≡ first_of (entry_checks (op_of f) f x)
-unfolding first_of ◌if◌
-refusal_is f x u s d r₆ r₅ r₄ r₃ r₂ r₁ live filled e es ed el ef e₆ e₅ e₄ e₃ e₂ e₁ =
-    rw (e₁, e₂, e₃, e₄, e₅, e₆, ef, el, ed, es, e) (ap first_of (flag-checks (op_of f) f x))

@@ -5,7 +5,6 @@ ghost use Rattle.walk.specs.Walk.{walks_of, Walkable};
 ghost use Rattle.requests.specs.Requests.{frame_of};
 ghost use Rattle.repeats.specs.InARow.{Roomy, is_step, walked, Steps, StepsInLeaf};
 
-use limits::numbers::DONE;
 use records::NodeNo;
 use requests::{Answer, Frame};
 use walk::{Stretch, Walks};
@@ -52,12 +51,7 @@ fn answer_cells(
         }
         let i = index::along(back, s.place, (j - k) as u32);
         let x = lookup::cell_at(cells, NodeNo(s.node), i);
-        let answer = Answer {
-            number: DONE,
-            fresh: 0,
-            value: x,
-        };
-        requests::put_answer(room, j, answer);
+        requests::put_answer(room, j, Answer::done(0, x));
     }
     end
 }

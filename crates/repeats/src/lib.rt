@@ -12,7 +12,7 @@ ghost use Rattle.requests.specs.Requests.{frame_of, answer_of};
 ghost use Rattle.calls.specs.Walks as calls;
 ghost use Rattle.repeats.specs.InARow.{Roomy, is_get, Gets, walked, Steps, Stops, is_step};
 
-use limits::numbers::{DONE, NOTHING_THERE};
+use limits::numbers::Refusal;
 use limits::operations;
 use records::{NodeNo, Version};
 use requests::{Answer, Frame};
@@ -75,12 +75,7 @@ pub fn gets(
         before = f.index;
         let b = vector_utils::bucket(v.bits, before, 0);
         let x = lookup::cell_at(cells, leaf, b);
-        let answer = Answer {
-            number: DONE,
-            fresh: 0,
-            value: x,
-        };
-        requests::put_answer(room, j, answer);
+        requests::put_answer(room, j, Answer::done(0, x));
     }
     count
 }
@@ -92,16 +87,8 @@ fn answer_of(g: Option<u32>) -> Answer
     ensures { answer_of result ≡ calls.answer_of g }
 {
     match g {
-        Some(x) => Answer {
-            number: DONE,
-            fresh: 0,
-            value: x,
-        },
-        None => Answer {
-            number: NOTHING_THERE,
-            fresh: 0,
-            value: 0,
-        },
+        Some(x) => Answer::done(0, x),
+        None => Answer::refused(Refusal::NothingThere),
     }
 }
 

@@ -12,6 +12,9 @@ frame_of f = record { party = f.party; operation = f.operation; slot = f.slot; d
 abbrev pub answer_of : Answer → meaning.Answer
 answer_of a = record { number = a.number; fresh = a.fresh; value = a.value }
 
+abbrev pub answer_with : (number fresh value : ℕ) → Answer
+answer_with n k x = record { number = n; fresh = k; value = x }
+
 -- where the kth frame and the kth answer begin
 abbrev pub frame_place : (k : ℕ) → ℕ
 frame_place k = frame_size * k

@@ -2,10 +2,12 @@
 #![tactic(auto)]
 
 ghost use Rattle.std.specs.Prelude.{◌≡◌, ◌+◌, ◌^◌, ◌≤◌, ◌<◌, length, take, drop};
-ghost use Rattle.meaning.specs.Limits.{frame_size, answer_size};
+ghost use Rattle.meaning.specs.Limits.{frame_size, answer_size, done_number};
 ghost use Rattle.meaning.specs.Frames.{from_bytes, encode};
-ghost use Rattle.requests.specs.Requests.{frame_of, answer_of, frame_place, answer_place, frame_in, put};
+ghost use Rattle.limits.specs.Refusals.{number_of};
+ghost use Rattle.requests.specs.Requests.{frame_of, answer_of, answer_with, frame_place, answer_place, frame_in, put};
 
+use limits::numbers::{DONE, Refusal};
 use limits::{ANSWER_SIZE, FRAME_SIZE};
 
 // A request of one call. What its fields name is for the operation to say.
@@ -24,6 +26,28 @@ pub struct Answer {
     pub number: u8,
     pub fresh: u8,
     pub value: u32,
+}
+
+impl Answer {
+    pub fn done(fresh: u8, value: u32) -> Answer
+        ensures { result ≡ answer_with done_number fresh value }
+    {
+        Answer {
+            number: DONE,
+            fresh,
+            value,
+        }
+    }
+
+    pub fn refused(refusal: Refusal) -> Answer
+        ensures { result ≡ answer_with (number_of refusal) 0 0 }
+    {
+        Answer {
+            number: u8::from(refusal),
+            fresh: 0,
+            value: 0,
+        }
+    }
 }
 
 // The number whose 4 bytes stand at a place.

@@ -15,7 +15,7 @@ use Rattle.meaning.specs.Operations.{giver, taker}
 use Rattle.records.specs.Records.{record_of, records_of}
 use Rattle.records.specs.declared.Version.{Version}
 use Rattle.store.specs.Store.{Store, node_count}
-use Rattle.requests.specs.Requests.{put, frame_in, answer_place}
+use Rattle.requests.specs.Requests.{answer_of, put, frame_in, answer_place}
 use Rattle.frames.specs.Run.{Run, version_in, source_in, target_in}
 use Rattle.frames.specs.Serve.{serve}
 use Rattle.served.specs.Acted.{acted_of}
@@ -115,20 +115,20 @@ module _ (s : Store) (table : List Version) (ws : WalkSlices) (f : Frame) (sourc
       (acts : with_walks (acted_of after r) walks_after
       ≡ turn s ws f (source_from f (record_of (get_or table source zeros))) (target_from f (record_of (get_or table target zeros))) (record_of (get_or table changed zeros))) where
     abbrev answer : Answer
-    answer = record { number = r.number; fresh = r.fresh; value = r.value }
+    answer = answer_of r.answer
 
-    serves : Runs now → serve now f ≡ (run_of after (records_of (set table changed r.version)) walks_after, answer)
-    serves k =
+    pub served : Runs now → (run_of after (records_of (set table changed r.version)) walks_after, answer) ≡ serve now f
+    served k =
         let same : with_walks (acted_of after r) walks_after ≡ turn s ws f (source_in now f) (target_in now f) (old_in now f) = acts ∙ rw (source-read, target-read, old-read) in
-        turn-serves now f k ∙ (ap (turned now f) (sym same) ∙ rw (records-set table changed r.version, at.changed_is))
+        sym (turn-serves now f k ∙ (ap (turned now f) (sym same) ∙ rw (records-set table changed r.version, at.changed_is)))
 
-    pub turn-steps : (requests room room_after : List ℕ) (k : ℕ) → Runs now → f ≡ frame_in requests k → room_after ≡ put room (answer_place k) (encode answer)
-        → progress (run_of after (records_of (set table changed r.version)) walks_after) room_after ≡ step requests (progress now room) k
-    unfolding step
-    turn-steps requests room room_after k runs e h =
-        ap (progress (run_of after (records_of (set table changed r.version)) walks_after)) h
-        ∙ (ap (λ (x : Run × Answer). progress x.0 (put room (answer_place k) (encode x.1))) (sym (serves runs))
-        ∙ ap (λ (g : Frame). progress (serve now g).0 (put room (answer_place k) (encode (serve now g).1))) e)
+pub serve-steps : (requests room room_after : List ℕ) (k : ℕ) (f : Frame) (r after : Run) (a : Answer) → (after, a) ≡ serve r f → f ≡ frame_in requests k
+    → room_after ≡ put room (answer_place k) (encode a) → progress after room_after ≡ step requests (progress r room) k
+unfolding step
+serve-steps requests room room_after k f r after a e ef h =
+    ap (progress after) h
+    ∙ (ap (λ (x : Run × Answer). progress x.0 (put room (answer_place k) (encode x.1))) e
+    ∙ ap (λ (g : Frame). progress (serve r g).0 (put room (answer_place k) (encode (serve r g).1))) ef)
 
 -- ---- the loop
 

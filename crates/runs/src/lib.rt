@@ -2,19 +2,19 @@
 #![tactic(auto)]
 
 ghost use Rattle.std.specs.Prelude.{◌≡◌};
-ghost use Rattle.records.specs.Records.{record_of, records_of};
-ghost use Rattle.store.specs.Store.{store_of};
+ghost use Rattle.records.specs.Records.{record_of};
+ghost use Rattle.store.specs.Lent.{SameSlices};
 ghost use Rattle.walk.specs.Walk.{walks_of};
-ghost use Rattle.requests.specs.Requests.{frame_of};
-ghost use Rattle.served.specs.Acted.{acted_of};
-ghost use Rattle.calls.specs.Calls.{with_walks};
-ghost use Rattle.turns.specs.Turns.{Turnable, turn};
-ghost use Rattle.runs.specs.Runs.{Placed, source_from, target_from, run_of, progress, CanRun, run_from, Repeatable, Repeats};
+ghost use Rattle.requests.specs.Requests.{frame_of, answer_of};
+ghost use Rattle.frames.specs.Serve.{serve};
+ghost use Rattle.serving.specs.States.{Runs};
+ghost use Rattle.runs.specs.Runs.{Placed, progress, CanRun, run_from, Repeatable, Repeats};
+ghost use Rattle.runs.specs.States.{state_of};
 
 use limits::{VERSIONS, operations};
-use records::{Supply, Version};
+use records::Version;
 use requests::{Answer, Frame};
-use served::Served;
+use store::Store;
 use walk::Walks;
 
 // Where the records of a frame's slots stand, and the one that it may change.
@@ -37,43 +37,11 @@ fn places_of(f: Frame) -> Places
     }
 }
 
-// With what stands at the places, whether the frame's slots are there or not.
-fn serve(
-    kinds: &mut [u8],
-    used: &mut [u8],
-    counts: &mut [u32],
-    cells: &mut [u32],
-    order: &mut [u32],
-    walks: &mut Walks,
-    supply: Supply,
-    f: Frame,
-    at_source: Version,
-    at_target: Version,
-    old: Version,
-) -> Served
-    requires { Turnable (store_of kinds.old used.old counts.old cells.old order.old supply.free) (walks_of walks.old)
-        (frame_of f) (source_from (frame_of f) (record_of at_source)) (target_from (frame_of f) (record_of at_target)) }
-    ensures { with_walks (acted_of (store_of kinds.new used.new counts.new cells.new order.new result.free) result)
-        (walks_of walks.new)
-        ≡ turn (store_of kinds.old used.old counts.old cells.old order.old supply.free)
-        (walks_of walks.old)
-        (frame_of f) (source_from (frame_of f) (record_of at_source)) (target_from (frame_of f) (record_of at_target)) (record_of old) }
-{
-    let source_there = turns::is_slot(refusals::giver(f), f.slot);
-    let target_there = turns::is_slot(refusals::taker(f), f.destination);
-    let v = turns::version_or_empty(source_there, at_source);
-    let w = turns::version_or_empty(target_there, at_target);
-    turns::serve(
-        kinds, used, counts, cells, order, walks, supply, f, v, w, old,
-    )
-}
-
 // ---- frames like the one before
 
 // Answers the frames from the kth on that get from the slot, or step the walk, of the frame before; how far, it says. The version is what stands in that slot.
 fn repeat(
-    cells: &[u32],
-    used: &[u8],
+    store: &Store,
     walks: &mut Walks,
     f: Frame,
     v: Version,
@@ -83,10 +51,11 @@ fn repeat(
     count: usize,
 ) -> usize
     requires { Repeatable (walks_of walks.old) (frame_of f) (record_of v) requests.now room.old k count }
-    ensures { Repeats cells.now used.now (walks_of walks.old)
+    ensures { Repeats store.now.cells.now store.now.used.now (walks_of walks.old)
         (walks_of walks.new) (frame_of f) (record_of v)
         requests.now room.old room.new k count result }
 {
+    let cells = &*store.cells;
     let there = turns::is_slot(f.party as u32, f.slot);
     if (f.operation == operations::GET) & there & (v.live == 1) {
         return repeats::gets(cells, f.party, f.slot, v, requests, room, k, count);
@@ -94,6 +63,7 @@ fn repeat(
     let open = turns::is_open(walks, f.party as u32, f.slot);
     if ((f.operation == operations::NEXT) | (f.operation == operations::NEXT_BACK)) & open {
         let n = turns::walk_place(f.party as u32, f.slot);
+        let used = &*store.used;
         return repeats::steps(
             cells,
             used,
@@ -113,73 +83,49 @@ fn repeat(
 
 // ---- all frames
 
-// The version records and the number of free nodes afterwards.
-#[derive(Drop)]
-pub struct Ran {
-    pub versions: [Version; VERSIONS],
-    pub free: usize,
+// What stands at the places is read and written, whether the frame's slots are there or not.
+fn serve(
+    store: &mut Store,
+    versions: &mut [Version; VERSIONS],
+    walks: &mut Walks,
+    f: Frame,
+    at: Places,
+) -> Answer
+    requires runs { Runs (state_of store.old versions.old walks.old) }
+    requires placed { Placed (frame_of f) at.source at.target at.changed }
+    ensures same_slices { SameSlices store.old store.new }
+    ensures served { (state_of store.new versions.new walks.new, answer_of result) ≡ serve (state_of store.old versions.old walks.old) (frame_of f) }
+{
+    let source_there = turns::is_slot(refusals::giver(f), f.slot);
+    let target_there = turns::is_slot(refusals::taker(f), f.destination);
+    let v = turns::version_or_empty(source_there, versions[at.source]);
+    let w = turns::version_or_empty(target_there, versions[at.target]);
+    let old = versions[at.changed];
+    let served = turns::serve(store, walks, f, v, w, old);
+    versions[at.changed] = served.version;
+    served.answer
 }
 
 pub fn run(
-    kinds: &mut [u8],
-    used: &mut [u8],
-    counts: &mut [u32],
-    cells: &mut [u32],
-    order: &mut [u32],
+    store: &mut Store,
+    versions: &mut [Version; VERSIONS],
     walks: &mut Walks,
-    free: usize,
-    versions: [Version; VERSIONS],
     requests: &[u8],
     room: &mut [u8],
     count: usize,
-) -> Ran
-    requires { CanRun (run_of (store_of kinds.old used.old counts.old cells.old order.old free) (records_of versions) (walks_of walks.old))
-        requests.now room.old count }
-    ensures { progress (run_of (store_of kinds.new used.new counts.new cells.new order.new result.free)
-        (records_of result.versions) (walks_of walks.new)) room.new
-        ≡ run_from requests.now count
-        (progress (run_of (store_of kinds.old used.old counts.old cells.old order.old free)
-        (records_of versions) (walks_of walks.old)) room.old) 0 }
+)
+    requires { CanRun (state_of store.old versions.old walks.old) requests.now room.old count }
+    ensures same_slices { SameSlices store.old store.new }
+    ensures ran { progress (state_of store.new versions.new walks.new) room.new
+        ≡ run_from requests.now count (progress (state_of store.old versions.old walks.old) room.old) 0 }
 {
-    let mut table = versions;
-    let mut left = free;
     let mut k = 0;
     while k < count {
         let f = requests::frame_at(requests, k);
         let at = places_of(f);
-        let source = at.source;
-        let target = at.target;
-        let changed = at.changed;
-        let at_source = table[source];
-        let at_target = table[target];
-        let old = table[changed];
-        let r = serve(
-            kinds,
-            used,
-            counts,
-            cells,
-            order,
-            walks,
-            Supply { free: left },
-            f,
-            at_source,
-            at_target,
-            old,
-        );
-        let version = r.version;
-        table[changed] = version;
-        left = r.free;
-        let answer = Answer {
-            number: r.number,
-            fresh: r.fresh,
-            value: r.value,
-        };
+        let answer = serve(store, versions, walks, f, at);
         requests::put_answer(room, k, answer);
-        let there = table[source];
-        k = repeat(cells, used, walks, f, there, requests, room, k + 1, count);
-    }
-    Ran {
-        versions: table,
-        free: left,
+        let there = versions[at.source];
+        k = repeat(store, walks, f, there, requests, room, k + 1, count);
     }
 }

@@ -4,6 +4,7 @@ use Rattle.meaning.specs.Lent.{VersionRecord}
 use Rattle.meaning.specs.Frames.{Answer}
 use Rattle.records.specs.Records.{record_of}
 use Rattle.store.specs.Store.{Store}
+use Rattle.requests.specs.Requests.{answer_of}
 use Rattle.vector.specs.Calls.{Called, number_of}
 use Rattle.vector.specs.Calls as vector
 use Rattle.served.specs.declared.Served.{Served}
@@ -15,7 +16,7 @@ pub record Acted : Type 0 where
 
 -- an answer of the code, and the store beside it
 abbrev pub acted_of : Store → Served → Acted
-acted_of s r = record { store = s; version = record_of r.version; answer = record { number = r.number; fresh = r.fresh; value = r.value } }
+acted_of s r = record { store = s; version = record_of r.version; answer = answer_of r.answer }
 
 -- ---- a call of the vector
 

@@ -5,13 +5,14 @@ use Rattle.meaning.specs.Limits.{done_number, nothing_there_number}
 use Rattle.meaning.specs.Effects.{signed}
 use Rattle.records.specs.declared.Version.{Version}
 use Rattle.compare.specs.Compare.{sign_of}
+use Rattle.requests.specs.Requests.{answer_with}
 use Rattle.vector.specs.declared.Edit.{Edit}
 use Rattle.vector.specs.Calls.{refusal_number}
 use Rattle.vector.specs.Calls as vector
 use Rattle.served.specs.declared.Served.{Served}
 
 abbrev pub served_with : (number fresh value free : ℕ) → Version → Served
-served_with n k x f v = record { number = n; fresh = k; value = x; free = f; version = v }
+served_with n k x f v = record { answer = answer_with n k x; free = f; version = v }
 
 -- fresh and value are 0, and the record stays
 abbrev pub refused_with : (number free : ℕ) → (old : Version) → Served

@@ -1,33 +1,31 @@
 // The answers of the vector's calls as those of frames, with document 01's numbers.
 #![tactic(auto)]
 
-ghost use Rattle.std.specs.Prelude.{◌≡◌, ◌%◌};
+ghost use Rattle.std.specs.Prelude.{◌≡◌};
+ghost use Rattle.limits.specs.Refusals.{number_of};
 ghost use Rattle.vector.specs.Calls.{refusal_number};
 ghost use Rattle.served.specs.Served.{refused_with, answered_with, served_done, edited_with, got_with, ordered_with};
 
-use limits::numbers::{BAD_BITS, DONE, FULL, NO_NODES, NOTHING_THERE};
+use limits::numbers::Refusal;
 use records::Version;
+use requests::Answer;
 use std::cmp::Ordering;
 use vector::{Edit, Refused};
 
 // What a frame is answered, how many nodes are free then, and what stands in the one version record that it may change.
 #[derive(Clone, Copy)]
 pub struct Served {
-    pub number: u8,
-    pub fresh: u8,
-    pub value: u32,
+    pub answer: Answer,
     pub free: usize,
     pub version: Version,
 }
 
-pub fn refused(number: u8, free: usize, old: Version) -> Served
-    ensures { result ≡ refused_with number free old }
+pub fn refused(refusal: Refusal, free: usize, old: Version) -> Served
+    ensures { result ≡ refused_with (number_of refusal) free old }
 {
     Served {
-        number: number,
-        fresh: 0,
-        value: 0,
-        free: free,
+        answer: Answer::refused(refusal),
+        free,
         version: old,
     }
 }
@@ -36,41 +34,32 @@ pub fn answered(value: u32, free: usize, version: Version) -> Served
     ensures { result ≡ answered_with value free version }
 {
     Served {
-        number: DONE,
-        fresh: 0,
-        value: value,
-        free: free,
-        version: version,
+        answer: Answer::done(0, value),
+        free,
+        version,
     }
-}
-
-// No call copies so many nodes that a byte is too small for them.
-fn low_byte(n: u32) -> u8
-    ensures { result ≡ n % 256 }
-{
-    (n % 256) as u8
 }
 
 fn done(e: Edit, free: usize) -> Served
     ensures { result ≡ served_done e free }
 {
+    // No call copies so many nodes that a byte is too small for them.
+    let fresh = (e.copied % 256) as u8;
     Served {
-        number: DONE,
-        fresh: low_byte(e.copied),
-        value: 0,
-        free: free,
+        answer: Answer::done(fresh, 0),
+        free,
         version: e.version,
     }
 }
 
-fn number_of(r: Refused) -> u8
-    ensures { result ≡ refusal_number r }
+fn refusal_of(r: Refused) -> Refusal
+    ensures { number_of result ≡ refusal_number r }
 {
     match r {
-        Refused::BadBits => BAD_BITS,
-        Refused::NothingThere => NOTHING_THERE,
-        Refused::Full => FULL,
-        Refused::NoNodes => NO_NODES,
+        Refused::BadBits => Refusal::BadBits,
+        Refused::NothingThere => Refusal::NothingThere,
+        Refused::Full => Refusal::Full,
+        Refused::NoNodes => Refusal::NoNodes,
     }
 }
 
@@ -80,7 +69,7 @@ pub fn of_edited(e: Result<Edit, Refused>, free: usize, old: Version) -> Served
 {
     match e {
         Ok(edit) => done(edit, free),
-        Err(r) => refused(number_of(r), free, old),
+        Err(r) => refused(refusal_of(r), free, old),
     }
 }
 
@@ -89,7 +78,7 @@ pub fn of_got(g: Option<u32>, free: usize, old: Version) -> Served
 {
     match g {
         Some(x) => answered(x, free, old),
-        None => refused(NOTHING_THERE, free, old),
+        None => refused(Refusal::NothingThere, free, old),
     }
 }
 

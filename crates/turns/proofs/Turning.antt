@@ -14,7 +14,7 @@ use Rattle.meaning.specs.Serve.{refused}
 use Rattle.records.specs.Records.{record_of}
 use Rattle.records.specs.declared.Version.{Version}
 use Rattle.store.specs.Store.{Store}
-use Rattle.refusals.specs.Flags.{standing}
+use Rattle.refusals.specs.Uses.{standing}
 use Rattle.served.specs.Served.{refused_with}
 use Rattle.served.specs.Acted.{acted_of}
 use Rattle.served.specs.declared.Served.{Served}
@@ -34,8 +34,7 @@ module _ (ws : WalkSlices) (f : Frame) (v w : VersionRecord) where
       ∙ ap (λ (x : Bool). first_of (entry_checks (op_of f) f (standing (eqb v.live 1) (eqb w.live 1) (is_open_at ws.numbers (giver f) f.slot) x))) opened)
 
   module _ (s : Store) (n : ℕ) (told : n ≡ entry_number ws f v w) where
-    pub turn-refuses : (old : Version) (r : Served) → n ≢ done_number → r ≡ refused_with n s.free old
-        → with_walks (acted_of (record { nodes = s.nodes; counts = s.counts; order = s.order; free = r.free }) r) ws ≡ turn s ws f v w (record_of old)
+    pub turn-refuses : (old : Version) (r : Served) → n ≢ done_number → r ≡ refused_with n s.free old → with_walks (acted_of s r) ws ≡ turn s ws f v w (record_of old)
     unfolding turn refused
     turn-refuses old r h t = rw (← told, ne_eqb n done_number h, t)
 

@@ -9,7 +9,7 @@ use Rattle.meaning.specs.Serve.{refused}
 use Rattle.store.specs.Store.{Store}
 use Rattle.walk.specs.Walk.{number_at}
 use Rattle.frames.specs.Run.{walk_place}
-use Rattle.refusals.specs.Flags.{standing}
+use Rattle.refusals.specs.Uses.{standing}
 use Rattle.calls.specs.Walks.{WalkActed, acted}
 use Rattle.calls.specs.Calls.{Serviceable, with_walks, act}
 

@@ -5,7 +5,7 @@ ghost use Rattle.std.specs.Prelude.{◌≡◌, Bool, cond, ◌&&◌, ◌+◌, �
 ghost use Rattle.meaning.specs.Limits.{parties, party_slots, version_count};
 ghost use Rattle.meaning.specs.Lent.{empty_record};
 ghost use Rattle.records.specs.Records.{record_of};
-ghost use Rattle.store.specs.Store.{store_of};
+ghost use Rattle.store.specs.Lent.{held, SameSlices};
 ghost use Rattle.walk.specs.Walk.{walks_of};
 ghost use Rattle.requests.specs.Requests.{frame_of};
 ghost use Rattle.served.specs.Acted.{acted_of};
@@ -13,10 +13,11 @@ ghost use Rattle.calls.specs.Calls.{with_walks};
 ghost use Rattle.frames.specs.Run.{walk_place};
 ghost use Rattle.turns.specs.Turns.{place_of, changed_in, is_open_at, Turnable, turn};
 
-use limits::numbers::DONE;
+use limits::operations::Operation;
 use limits::words::PARTIES;
-use limits::{PARTY_SLOTS, PARTY_WALKS, WALK_NUMBERS, operations};
-use records::{Supply, Version};
+use limits::{PARTY_SLOTS, PARTY_WALKS, WALK_NUMBERS};
+use records::Version;
+use refusals::Standing;
 use requests::Frame;
 use served::Served;
 use store::Store;
@@ -51,7 +52,7 @@ pub fn version_or_empty(there: bool, v: Version) -> Version
 pub fn changed_place(f: Frame, source: usize, target: usize) -> usize
     ensures { result ≡ changed_in (frame_of f) source target }
 {
-    if f.operation == operations::RELEASE {
+    if f.operation == u8::from(Operation::Release) {
         return source;
     }
     target
@@ -75,37 +76,26 @@ pub fn is_open(walks: &Walks, party: u32, walk: u8) -> bool
 }
 
 pub fn serve(
-    kinds: &mut [u8],
-    used: &mut [u8],
-    counts: &mut [u32],
-    cells: &mut [u32],
-    order: &mut [u32],
+    store: &mut Store,
     walks: &mut Walks,
-    supply: Supply,
     f: Frame,
     v: Version,
     w: Version,
     old: Version,
 ) -> Served
-    requires { Turnable (store_of kinds.old used.old counts.old cells.old order.old supply.free) (walks_of walks.old) (frame_of f) (record_of v) (record_of w) }
-    ensures { with_walks (acted_of (store_of kinds.new used.new counts.new cells.new order.new result.free) result)
-        (walks_of walks.new)
-        ≡ turn (store_of kinds.old used.old counts.old cells.old order.old supply.free)
-        (walks_of walks.old) (frame_of f) (record_of v) (record_of w) (record_of old) }
+    requires { Turnable (held store.old) (walks_of walks.old) (frame_of f) (record_of v) (record_of w) }
+    ensures same_slices { SameSlices store.old store.new }
+    ensures turned { with_walks (acted_of (held store.new) result) (walks_of walks.new)
+        ≡ turn (held store.old) (walks_of walks.old) (frame_of f) (record_of v) (record_of w) (record_of old) }
 {
-    let used_walk = is_open(walks, refusals::giver(f), f.slot);
-    let opened_walk = is_open(walks, refusals::taker(f), f.destination);
-    let number = refusals::refusal(f, v.live == 1, w.live == 1, used_walk, opened_walk);
-    if number != DONE {
-        return served::refused(number, supply.free, old);
-    }
-    let mut store = Store {
-        kinds,
-        used,
-        counts,
-        cells,
-        order,
-        free: supply.free,
+    let standing = Standing {
+        source_live: v.live == 1,
+        target_live: w.live == 1,
+        walk_open: is_open(walks, refusals::giver(f), f.slot),
+        opened_open: is_open(walks, refusals::taker(f), f.destination),
     };
-    calls::act(&mut store, walks, f, v, w, old)
+    if let Err(refusal) = refusals::check(f, standing) {
+        return served::refused(refusal, store.free, old);
+    }
+    calls::act(store, walks, f, v, w, old)
 }

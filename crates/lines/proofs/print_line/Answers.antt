@@ -14,4 +14,4 @@ pub returns-then-mark-eq-FRAME : goal.returns-then-mark-eq-FRAME
 returns-then-mark-eq-FRAME c = frame-prints _ _ _ _ _ c.requires _ _ c.if-mark-eq-FRAME.true c.answer_place-start.ensures c.print_answer.ensures
 
 pub returns : goal.returns
-returns c = other-prints _ _ _ _ _ c.requires _ c.if-mark-eq-FRAME.false c.print_answer-2.ensures
+returns c = other-prints _ _ _ _ _ c.requires _ c.if-mark-eq-FRAME.false (rw c.from.ensures at c.print_answer-2.ensures)

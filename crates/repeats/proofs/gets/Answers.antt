@@ -17,7 +17,7 @@ pub returns-then-not-is_get : goal.returns-then-not-is_get
 returns-then-not-is_get c = record { gets = record { row = c.loop-j.invariant.0; answers = c.loop-j.invariant.1 }; stops = row-stops (is_get c.args.party c.args.slot c.args.v.length) c.args.requests.now c.args.count c.loop-j.j (frame_of c.frame_at-f.result) _ c.frame_at-f.ensures c.is_get.ensures (ap not c.if-not-is_get.true) }
 
 pub loop-j-preserved : goal.loop-j-preserved
-loop-j-preserved c = (row-goes-on _ _ _ _ c.loop-j.j (frame_of c.frame_at-f.result) _ c.loop-j.invariant.0 c.loop-j-test.true c.frame_at-f.ensures c.is_get.ensures (ap not c.if-not-is_get.false), gets-go-on _ c.args.v _ _ _ c.loop-j.j _ (frame_of c.frame_at-f.result) _ _ c.loop-j.invariant.0.from c.loop-j.invariant.1 c.frame_at-f.ensures (element-found c.args.cells.now c.args.v.bits c.frame_at-f.result.index _ c.args.v.root _ _ _ (rw c.of-form.ensures.bits at c.leaf_again-leaf.ensures) c.bucket-b.ensures.value c.cell_at-x.ensures ∙ ap (λ (h : ℕ). element_in c.args.cells.now c.args.v.bits h c.args.v.root c.frame_at-f.result.index) c.of-form.ensures.height) c.put_answer.ensures, c.put_answer.auto.room ∙ c.loop-j.invariant.2, c.leaf_again-leaf.ensures)
+loop-j-preserved c = (row-goes-on _ _ _ _ c.loop-j.j (frame_of c.frame_at-f.result) _ c.loop-j.invariant.0 c.loop-j-test.true c.frame_at-f.ensures c.is_get.ensures (ap not c.if-not-is_get.false), gets-go-on _ c.args.v _ _ _ c.loop-j.j _ (frame_of c.frame_at-f.result) _ _ c.loop-j.invariant.0.from c.loop-j.invariant.1 c.frame_at-f.ensures (element-found c.args.cells.now c.args.v.bits c.frame_at-f.result.index _ c.args.v.root _ _ _ (rw c.of-form.ensures.bits at c.leaf_again-leaf.ensures) c.bucket-b.ensures.value c.cell_at-x.ensures ∙ ap (λ (h : ℕ). element_in c.args.cells.now c.args.v.bits h c.args.v.root c.frame_at-f.result.index) c.of-form.ensures.height) (rw c.done.ensures at c.put_answer.ensures), c.put_answer.auto.room ∙ c.loop-j.invariant.2, c.leaf_again-leaf.ensures)
 
 pub returns : goal.returns
 returns c =

@@ -17,7 +17,7 @@ pub along-i-requires : goal.along-i-requires
 along-i-requires c = within-before _ _ _ _ c.requires.stay (omega (arith, c.end_of-end.ensures.2, c.loop-j-test.true, c.loop-j.invariant.0.from))
 
 pub loop-j-preserved : goal.loop-j-preserved
-loop-j-preserved c = (row-goes-on _ _ _ _ c.loop-j.j (frame_of c.frame_at-f.result) _ c.loop-j.invariant.0 (omega (arith, c.end_of-end.ensures.1, c.loop-j-test.true)) c.frame_at-f.ensures c.is_step.ensures (ap not c.if-not-is_step.false), cells-go-on _ _ c.args.s _ _ c.loop-j.j _ _ _ _ c.loop-j.invariant.0.from c.loop-j.invariant.1 c.along-i.ensures.0 c.cell_at-x.ensures c.put_answer.ensures, c.put_answer.auto.room ∙ c.loop-j.invariant.2)
+loop-j-preserved c = (row-goes-on _ _ _ _ c.loop-j.j (frame_of c.frame_at-f.result) _ c.loop-j.invariant.0 (omega (arith, c.end_of-end.ensures.1, c.loop-j-test.true)) c.frame_at-f.ensures c.is_step.ensures (ap not c.if-not-is_step.false), cells-go-on _ _ c.args.s _ _ c.loop-j.j _ _ _ _ c.loop-j.invariant.0.from c.loop-j.invariant.1 c.along-i.ensures.0 c.cell_at-x.ensures (rw c.done.ensures at c.put_answer.ensures), c.put_answer.auto.room ∙ c.loop-j.invariant.2)
 
 pub returns : goal.returns
 returns c =
