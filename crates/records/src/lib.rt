@@ -14,12 +14,6 @@ pub struct NodeNo(pub u32);
 #[derive(Clone, Copy, PartialEq, Eq)]
 pub struct SlotNo(pub u32);
 
-// What a call may take nodes from.
-#[derive(Clone, Copy)]
-pub struct Supply {
-    pub free: usize,
-}
-
 // A version record. Any numbers may stand in a lent one; the audit says which are legal.
 #[repr(C)]
 #[derive(Clone, Copy, Default, PartialEq, Eq)]

@@ -116,6 +116,7 @@ pub fn steps(
 {
     let back = operation == operations::NEXT_BACK;
     let mut j = k;
+    // No `for`: a turn answers as many steps as stay in a leaf.
     while j < count {
         let f = requests::frame_at(requests, j);
         if !leaf::is_step(f, party, operation, walk) {

@@ -120,6 +120,7 @@ pub fn run(
         ≡ run_from requests.now count (progress (state_of store.old versions.old walks.old) room.old) 0 }
 {
     let mut k = 0;
+    // No `for`: a turn answers as many frames as are alike.
     while k < count {
         let f = requests::frame_at(requests, k);
         let at = places_of(f);
