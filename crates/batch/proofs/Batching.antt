@@ -117,9 +117,6 @@ module _ (s : Lent) (requests room : List ℕ) where
 pub moved : (s a b : Lent) (requests room room_after : List ℕ) (n k : ℕ) → a ≡ b → Batches s a requests room room_after n k → Batches s b requests room room_after n k
 moved s a b requests room room_after n k e h = rw (← e) h
 
-pub moved : (s a b : Lent) (requests room room_after : List ℕ) (n k : ℕ) → a ≡ b → Batches s a requests room room_after n k → Batches s b requests room room_after n k
-moved s a b requests room room_after n k e h = rw (← e) h
-
 -- ---- walk records copied out and back
 
 module _ (s : Store) (vs : List VersionRecord) (requests room : List ℕ) (n : ℕ) (copied lent : WalkSlices) (e : copied ≡ lent) where
