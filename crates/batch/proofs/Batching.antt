@@ -5,7 +5,6 @@ use mathlib.Core.Bool.{Bool, true, false, cond, not}
 use mathlib.Core.List.{List, ◌++◌}
 use Prim.Native.Nat.{ℕ, suc, ◌*◌, ◌/◌, ◌%◌, ◌≤◌, ◌<◌}
 use lib.ListN.{length, drop}
-use lib.IntN.{ℤ}
 use borrow.Author.Tests.{eq-eqb, ne_eqb, lt-ltb, le-ltb}
 use Rattle.meaning.specs.Limits.{frame_size, answer_size, done_number}
 use Rattle.meaning.specs.Counting.{divides}
@@ -16,9 +15,7 @@ use Rattle.meaning.specs.Frames.{Frame}
 use Rattle.meaning.specs.Checks.{◌if◌, first_of}
 use Rattle.meaning.specs.Batch.{batch_checks, answer_bytes, outcome, batch}
 use Rattle.upkeep.proofs.Doors.{well-formed-runs}
-use Rattle.records.specs.declared.Version.{Version}
 use Rattle.store.specs.Store.{Store}
-use Rattle.audit_reads.specs.Slices.{lent_from}
 use Rattle.audit.specs.Audited.{Judged}
 use Rattle.frames.specs.Run.{Run}
 use Rattle.serving.specs.States.{lent_in, run_in}
