@@ -64,6 +64,7 @@ fn main(rt: HostRuntime) {
     let mut order = [0u32; PROGRAM_NODES];
     let mut walks = Walks::all_closed();
     let mut versions = [Version::empty(); VERSIONS];
+    // Of these sizes, which fit, it is never refused.
     let _ = form::form(
         &mut kinds,
         &mut used,
