@@ -2,13 +2,52 @@
 #![tactic(auto)]
 
 ghost use Rattle.std.specs.Prelude.{◌≡◌, true, false, ◌+◌, ◌-◌, ◌*◌, ◌^◌, ◌<◌, ◌≤◌, min};
-ghost use Rattle.meaning.specs.Limits.{node_cells, max_length};
+ghost use Rattle.meaning.specs.Limits.{node_cells, max_length, length_bits};
+ghost use Rattle.meaning.specs.WellFormed.{LegalBits};
 ghost use Rattle.meaning.specs.Shape.{degree};
 ghost use Rattle.audit_model.specs.Descent.{code, answer, leaf_ok, branch_ok, visit};
 ghost use Rattle.audit_reads.specs.Slices.{nodes_in};
 ghost use Rattle.audit_descent.specs.Descendable.{Descendable};
 
 use audit_reads::Nodes;
+
+// What a child of a node of that height holds when it is full.
+pub fn capacity(bits: u32, height: u32) -> u32
+    requires legal { LegalBits bits }
+    requires shift { height * bits < length_bits }
+    ensures { (result ≡ degree bits ^ height) × (result ≤ max_length) }
+{
+    1 << (height * bits)
+}
+
+// What child i holds of a node that holds size.
+pub fn share(c: u32, size: u32, i: u32) -> u32
+    requires { (c ≤ max_length) × (i < node_cells) }
+    ensures { result ≡ min c (size - i * c) }
+{
+    c.min(size.saturating_sub(i * c))
+}
+
+// Whether a node of that kind and used number is a leaf of size elements.
+#[tactic(auto, unfolding(audit_model::specs::Descent::leaf_ok))]
+pub fn leaf_ok(kind: u32, used: u32, bits: u32, size: u32) -> bool
+    requires { LegalBits bits }
+    ensures { result ≡ leaf_ok kind used bits size }
+{
+    (kind == limits::words::LEAF) & (used == size) & (size <= shape::vector_utils::degree(bits))
+}
+
+// Whether it is a branch over size elements with children that hold c each. Then it has no more children than cells.
+pub fn branch_ok(kind: u32, used: u32, bits: u32, c: u32, size: u32) -> bool
+    requires { LegalBits bits × (used ≤ 255) × (c ≤ max_length) × (size ≤ max_length) }
+    ensures { (result ≡ branch_ok kind used bits c size) × (result ≡ true → used ≤ node_cells) }
+{
+    let most = used * c;
+    (kind == limits::words::BRANCH)
+        & (used <= shape::vector_utils::degree(bits))
+        & (size <= most)
+        & (most < size + c)
+}
 
 // What a node is asked to be: the root of a tree of that height over so many elements.
 #[derive(Clone, Copy)]
@@ -28,10 +67,10 @@ impl Tree {
     }
 
     // What a child holds when it is full.
-    pub fn capacity(self) -> u32
+    fn capacity(self) -> u32
         ensures { (result ≡ degree self.bits ^ self.height) × (result ≤ max_length) }
     {
-        1 << (self.height * self.bits)
+        capacity(self.bits, self.height)
     }
 
     // What child i is asked to be, where a full one holds c.
@@ -44,31 +83,23 @@ impl Tree {
         Tree {
             bits: self.bits,
             height: self.height - 1,
-            size: c.min(self.size.saturating_sub(i * c)),
+            size: share(c, self.size, i),
         }
     }
 
-    // Whether a node of that kind and used number is a leaf of that size.
-    #[tactic(auto, unfolding(audit_model::specs::Descent::leaf_ok))]
-    pub fn is_leaf(self, kind: u8, used: u8) -> bool
+    // Of the bytes that are lent.
+    fn is_leaf(self, kind: u8, used: u8) -> bool
         ensures { result ≡ leaf_ok kind used self.bits self.size }
     {
-        (kind == limits::LEAF)
-            & (used as u32 == self.size)
-            & (self.size <= shape::vector_utils::degree(self.bits))
+        leaf_ok(kind as u32, used as u32, self.bits, self.size)
     }
 
-    // Whether it is a branch of that size with children that hold c each. Then it has no more children than cells.
-    pub fn is_branch(self, kind: u8, used: u8, c: u32) -> bool
+    // The same, with children that hold c each.
+    fn is_branch(self, kind: u8, used: u8, c: u32) -> bool
         requires { c ≤ max_length }
         ensures { (result ≡ branch_ok kind used self.bits c self.size) × (result ≡ true → used ≤ node_cells) }
     {
-        let used = used as u32;
-        let most = used * c;
-        (kind == limits::BRANCH)
-            & (used <= shape::vector_utils::degree(self.bits))
-            & (self.size <= most)
-            & (most < self.size + c)
+        branch_ok(kind as u32, used as u32, self.bits, c, self.size)
     }
 }
 

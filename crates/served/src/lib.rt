@@ -20,14 +20,25 @@ pub struct Served {
     pub version: Version,
 }
 
-pub fn refused(refusal: Refusal, free: usize, old: Version) -> Served
-    ensures { result ≡ refused_with (number_of refusal) free old }
+// With any number, as an answer has it.
+pub fn refused(number: u8, free: usize, old: Version) -> Served
+    ensures { result ≡ refused_with number free old }
 {
     Served {
-        answer: Answer::refused(refusal),
+        answer: Answer {
+            number,
+            fresh: 0,
+            value: 0,
+        },
         free,
         version: old,
     }
+}
+
+pub fn refused_by(refusal: Refusal, free: usize, old: Version) -> Served
+    ensures { result ≡ refused_with (number_of refusal) free old }
+{
+    refused(u8::from(refusal), free, old)
 }
 
 pub fn answered(value: u32, free: usize, version: Version) -> Served
@@ -69,7 +80,7 @@ pub fn of_edited(e: Result<Edit, Refused>, free: usize, old: Version) -> Served
 {
     match e {
         Ok(edit) => done(edit, free),
-        Err(r) => refused(refusal_of(r), free, old),
+        Err(r) => refused_by(refusal_of(r), free, old),
     }
 }
 
@@ -78,7 +89,7 @@ pub fn of_got(g: Option<u32>, free: usize, old: Version) -> Served
 {
     match g {
         Some(x) => answered(x, free, old),
-        None => refused(Refusal::NothingThere, free, old),
+        None => refused_by(Refusal::NothingThere, free, old),
     }
 }
 

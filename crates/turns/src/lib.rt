@@ -85,6 +85,7 @@ pub fn serve(
 ) -> Served
     requires { Turnable (held store.old) (walks_of walks.old) (frame_of f) (record_of v) (record_of w) }
     ensures same_slices { SameSlices store.old store.new }
+    ensures free { result.free ≡ store.new.free }
     ensures turned { with_walks (acted_of (held store.new) result) (walks_of walks.new)
         ≡ turn (held store.old) (walks_of walks.old) (frame_of f) (record_of v) (record_of w) (record_of old) }
 {
@@ -95,7 +96,7 @@ pub fn serve(
         opened_open: is_open(walks, refusals::taker(f), f.destination),
     };
     if let Err(refusal) = refusals::check(f, standing) {
-        return served::refused(refusal, store.free, old);
+        return served::refused_by(refusal, store.free, old);
     }
     calls::act(store, walks, f, v, w, old)
 }
