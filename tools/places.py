@@ -67,7 +67,7 @@ def body(text):
 # ---- 1
 row("1 enums of the shape of Option, Result or std's Ordering", grep(r"^(pub )?enum (Got|Edited|Ordering)\b"))
 row("1 a kind, an operation, a mark or a refusal as a byte in a field, a parameter or a result", list(grep(r"\b(number|kind|operation|mark): u8")) + list(grep(r"fn (refusal|refusal_of_sizes|first|print_line).*-> u8")) + list(grep(r"^\) -> u8", r"refusals")))
-row("1 constants that number kinds, operations, marks, refusals and uses", grep(r"^(pub )?const \w+: u(8|32) = ", r"limits/src/(numbers|operations)|limits/src/words|refusals|lines/src|limits/src/lib", r"PARTY|SLOT|WALK|PARTIES|HOST: |BITS|LENGTH|WIDTH|LAST_OPERATION|CELLS"))
+row("1 constants that number kinds, operations, marks, refusals and uses", grep(r"^(pub )?const \w+: u(8|32) = ", r"limits/src/(numbers|operations)|limits/src/words|refusals|lines/src|limits/src/lib", r"PARTY|SLOT|LAST_WALK|PARTIES|HOST: |BITS|LENGTH|WIDTH|LAST_OPERATION|CELLS"))
 row("1 comparisons with such a constant", grep(r"(==|!=|<) (operations|numbers)::|[=!]= (FREE|LEAF|BRANCH|FRAME|DONE)\b|words::(FREE|LEAF|BRANCH)"))
 row("1 a flag beside the value that it says is there", grep(r"\b(there: bool|ok: bool|stores: bool|wanted: bool)|\.most == 0"))
 # ---- 2
