@@ -14,6 +14,10 @@ blanks = replicate version_count blank
 abbrev pub copies : (wanted : Bool) → (count : ℕ) → Bool
 copies wanted n = wanted && eqb n version_count
 
+-- how many records are copied then: all or none
+abbrev pub copied : (wanted : Bool) → (count : ℕ) → ℕ
+copied wanted n = cond (copies wanted n) version_count 0
+
 -- the table of a slice: of one that has another length, 64 blank records
 abbrev pub table_of : List Version → List Version
 table_of xs = cond (copies true (length xs)) xs blanks

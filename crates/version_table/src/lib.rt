@@ -2,7 +2,7 @@
 #![tactic(auto)]
 
 ghost use Rattle.std.specs.Prelude.{◌≡◌, true, ◌<◌, length, set, get_or};
-ghost use Rattle.version_table.specs.Tables.{blank, blanks, table_of, stored};
+ghost use Rattle.version_table.specs.Tables.{blank, blanks, copied, table_of, stored};
 
 use limits::VERSIONS;
 use records::Version;
@@ -34,13 +34,27 @@ fn blank_table() -> [Version; VERSIONS]
     }; VERSIONS]
 }
 
+// How many records are copied: all or none.
+fn how_many(wanted: bool, count: usize) -> usize
+    ensures { result ≡ copied wanted count }
+{
+    if wanted & (count == VERSIONS) {
+        return VERSIONS;
+    }
+    0
+}
+
+// Record by record here and below: the library's copy of these would want memmove of C, and the header says which functions are wanted.
 // The table by value; of a slice of another length, blank records.
 pub fn table_of(versions: &[Version]) -> [Version; VERSIONS]
     ensures { result ≡ table_of versions.now }
 {
     let mut table = blank_table();
-    if versions.len() == VERSIONS {
-        table.copy_from_slice(versions);
+    let all = how_many(true, versions.len());
+    let mut n = 0;
+    while n < all {
+        table[n] = versions[n];
+        n = n + 1;
     }
     table
 }
@@ -49,7 +63,10 @@ pub fn table_of(versions: &[Version]) -> [Version; VERSIONS]
 pub fn store_table(versions: &mut [Version], table: [Version; VERSIONS], wanted: bool)
     ensures { versions.new ≡ stored wanted table versions.old }
 {
-    if wanted & (versions.len() == VERSIONS) {
-        versions.copy_from_slice(&table);
+    let all = how_many(wanted, versions.len());
+    let mut n = 0;
+    while n < all {
+        versions[n] = table[n];
+        n = n + 1;
     }
 }
