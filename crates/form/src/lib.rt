@@ -77,7 +77,7 @@ pub fn form(
         return Err(Refusal::IllFormed);
     }
     clear_nodes(kinds, used, counts, order);
-    versions.fill(Version::empty());
     clear_walks(walk_numbers, walk_nodes, walk_indices);
+    versions.fill(Version::empty());
     Ok(())
 }

@@ -1,5 +1,6 @@
 // The numbers given back.
-ghost use Rattle.std.specs.Prelude.{◌≡◌, Result};
+ghost use Rattle.std.specs.Prelude.{◌≡◌, [], ◌∷◌, Result};
+ghost use Rattle.meaning.specs.Limits.{done_number, no_party_number, no_operation_number, host_only_number, out_of_range_number, empty_source_number, live_target_number, bad_bits_number, nothing_there_number, full_number, no_nodes_number, ill_formed_number, no_room_number, ragged_number, not_a_frame_number};
 ghost use Rattle.limits.specs.Refusals.{number_of, outcome_number};
 
 // The number of what is not refused.
@@ -40,4 +41,29 @@ pub fn of_outcome<T: Copy>(outcome: Result<T, Refusal>) -> u8
         Ok(_) => DONE,
         Err(refusal) => u8::from(refusal),
     }
+}
+
+// All of them, in their order.
+pub fn all() -> [u8; 15]
+    ensures { result ≡ done_number ∷ no_party_number ∷ no_operation_number ∷ host_only_number ∷ out_of_range_number ∷ empty_source_number
+        ∷ live_target_number ∷ bad_bits_number ∷ nothing_there_number ∷ full_number ∷ no_nodes_number ∷ ill_formed_number
+        ∷ no_room_number ∷ ragged_number ∷ not_a_frame_number ∷ [] }
+{
+    [
+        DONE,
+        u8::from(Refusal::NoParty),
+        u8::from(Refusal::NoOperation),
+        u8::from(Refusal::HostOnly),
+        u8::from(Refusal::OutOfRange),
+        u8::from(Refusal::EmptySource),
+        u8::from(Refusal::LiveTarget),
+        u8::from(Refusal::BadBits),
+        u8::from(Refusal::NothingThere),
+        u8::from(Refusal::Full),
+        u8::from(Refusal::NoNodes),
+        u8::from(Refusal::IllFormed),
+        u8::from(Refusal::NoRoom),
+        u8::from(Refusal::Ragged),
+        u8::from(Refusal::NotAFrame),
+    ]
 }

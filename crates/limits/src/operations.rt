@@ -1,5 +1,6 @@
 // The operations by their numbers.
-ghost use Rattle.std.specs.Prelude.{◌≡◌};
+ghost use Rattle.std.specs.Prelude.{◌≡◌, [], ◌∷◌};
+ghost use Rattle.meaning.specs.Limits.{new_code, clone_code, release_code, len_code, get_code, set_code, push_back_code, drop_last_code, open_walk_code, next_code, next_back_code, close_walk_code, hand_over_code, free_nodes_code, first_code, last_code, compare_code};
 ghost use Rattle.limits.specs.Operations.{code_of, Decodes};
 
 use crate::numbers::Refusal;
@@ -95,3 +96,15 @@ pub const FIRST: u8 = Operation::First as u8;
 pub const LAST: u8 = Operation::Last as u8;
 
 pub const COMPARE: u8 = Operation::Compare as u8;
+
+// All of them, in their order.
+pub fn all() -> [u8; 17]
+    ensures { result ≡ new_code ∷ clone_code ∷ release_code ∷ len_code ∷ get_code ∷ set_code
+        ∷ push_back_code ∷ drop_last_code ∷ open_walk_code ∷ next_code ∷ next_back_code ∷ close_walk_code
+        ∷ hand_over_code ∷ free_nodes_code ∷ first_code ∷ last_code ∷ compare_code ∷ [] }
+{
+    [
+        NEW, CLONE, RELEASE, LEN, GET, SET, PUSH_BACK, DROP_LAST, OPEN_WALK, NEXT, NEXT_BACK,
+        CLOSE_WALK, HAND_OVER, FREE_NODES, FIRST, LAST, COMPARE,
+    ]
+}

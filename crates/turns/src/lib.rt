@@ -96,7 +96,9 @@ pub fn serve(
         opened_open: is_open(walks, refusals::taker(f), f.destination),
     };
     if let Err(refusal) = refusals::check(f, standing) {
-        return served::refused_by(refusal, store.free, old);
+        // The number by itself: an edit writes 0 for it.
+        let number = u8::from(refusal);
+        return served::refused(number, store.free, old);
     }
     calls::act(store, walks, f, v, w, old)
 }

@@ -10,7 +10,7 @@ pub returns-in-Err-clause-turned : goal.returns-in-Err-clause-turned
 returns-in-Err-clause-turned c =
     turn-refuses _ (frame_of c.args.f) (record_of c.args.v) (record_of c.args.w) _ _
     (entry-is _ (frame_of c.args.f) (record_of c.args.v) (record_of c.args.w) _ _ _ _ _ c.giver.ensures c.taker.ensures c.is_open.ensures c.is_open-2.ensures c.in-Err.ensures.number)
-    _ _ (refusal-is-told c.in-Err.refusal) c.refused_by.ensures
+    _ _ (refusal-is-told c.in-Err.refusal) (rw c.from-number.ensures at c.refused.ensures)
 
 pub act-requires : goal.act-requires
 act-requires c =
