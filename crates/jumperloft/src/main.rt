@@ -42,7 +42,7 @@ fn answer_all(
     let mut begun = Begun::new();
     let mut piece = [0u8; PIECE];
     let mut out = [0u8; OUT];
-    for _ in 0..u64::MAX {
+    for _ in (1..=u64::MAX).rev() {
         let n = read_piece(rt, &mut piece);
         if n == 0 {
             break;

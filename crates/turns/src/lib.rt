@@ -13,6 +13,8 @@ ghost use Rattle.calls.specs.Calls.{with_walks};
 ghost use Rattle.frames.specs.Run.{walk_place};
 ghost use Rattle.turns.specs.Turns.{place_of, changed_in, is_open_at, Turnable, turn};
 
+use limits::numbers;
+use limits::numbers::DONE;
 use limits::operations::Operation;
 use limits::words::PARTIES;
 use limits::{PARTY_SLOTS, PARTY_WALKS, WALK_NUMBERS};
@@ -95,9 +97,8 @@ pub fn serve(
         walk_open: is_open(walks, refusals::giver(f), f.slot),
         opened_open: is_open(walks, refusals::taker(f), f.destination),
     };
-    if let Err(refusal) = refusals::check(f, standing) {
-        // The number by itself: an edit writes 0 for it.
-        let number = u8::from(refusal);
+    let number = numbers::of_outcome(refusals::check(f, standing));
+    if number != DONE {
         return served::refused(number, store.free, old);
     }
     calls::act(store, walks, f, v, w, old)
