@@ -7,7 +7,7 @@ use native.Mathlib.Numerals.{sub-one}
 use native.Mathlib.Nat.{pos_of_ne-zero}
 use native.Mathlib.Omega.{arith}
 use lib.Dec.{leb, eqb}
-use lib.ListN.{drop, get_or}
+use lib.ListN.{length, drop, get_or}
 use lib.Pow.{pow_pos}
 use lib.Seq.{slice, get_or-take, get_or-drop}
 use Rattle.meaning.specs.Limits.{node_cells, word_width}
@@ -16,8 +16,8 @@ use Rattle.meaning.specs.Shape.{degree, bucket}
 use Rattle.cells.specs.Cells.{cells_of}
 use Rattle.store.specs.Store.{Store, node_count, raise, raises, make}
 use Rattle.store.specs.Ready.{Sized, Room}
-use Rattle.store.specs.Lent.{held, SameSlices}
-use Rattle.store.specs.declared.Store as code
+use Rattle.store.specs.Lent.{nodes_with, held_with, SameMarks}
+use Rattle.store.specs.declared.Marks.{Marks}
 use Rattle.store.proofs.Raising.{room-less, room-raises}
 use Rattle.shape.proofs.Powers.{degree-power, one-shifts}
 use Rattle.paths.specs.Paths.{Made, Source, source, branch_with, leaf_cut, branch_cut, drop_last}
@@ -115,26 +115,18 @@ pub drop-lower : (s : Store) (bits h n i : ℕ) (c : Source) (b : ℕ) → (h �
     → Ready s bits h (WayToLast s bits h n i) → Ready s bits (h - 1) (WayToLast s bits (h - 1) (get_or c.cells b 0) i)
 drop-lower s bits h n i c b ne p q r = ready-lower s bits h ne r (last-lower s bits h n i c b ne p q r.way).1
 
-drop-order : (s : Store) (bits h n i : ℕ) → (drop_last s bits h n i).store.order ≡ s.order
-unfolding drop_last leaf_cut branch_cut branch_with make
-drop-order s bits zero n i = refl
-drop-order s bits (suc h) n i = by (below s bits h n i) (divides (degree bits ^ suc h) i) (drop-order s bits h (get_or (source s.nodes true n).cells (bucket bits (suc h) i) 0) i)
-  where
-    by : (d : Made) (t : Bool) → d.store.order ≡ s.order → (dropped s bits h n i d t).store.order ≡ s.order
-    by d true e = refl
-    by d false e = e
-
-pub drop-shares : (p q : code.Store) (bits h n i : ℕ) (c : Source) (b m : ℕ) → (h ≡ 0 → ⊥) → c ≡ source (held p).nodes true n → b ≡ bucket bits h i
-    → b < node_cells → Ready (held p) bits h (WayToLast (held p) bits h n i) → made_of (held q) m ≡ drop_last (held p) bits (h - 1) (get_or c.cells b 0) i
-    → SameSlices p q → CanShare (held q) c b
-drop-shares p q bits h n i c b m ne x y l r e same =
-    let s = held p in
-    let s' = held q in
+pub drop-shares : (p q : Marks) (cells cells' order : List ℕ) (bits h n i : ℕ) (c : Source) (b m : ℕ) → (h ≡ 0 → ⊥) → c ≡ source (nodes_with p cells) true n → b ≡ bucket bits h i
+    → b < node_cells → Ready (held_with p cells order) bits h (WayToLast (held_with p cells order) bits h n i)
+    → made_of (held_with q cells' order) m ≡ drop_last (held_with p cells order) bits (h - 1) (get_or c.cells b 0) i
+    → SameMarks p q → length cells' ≡ length cells → CanShare (held_with q cells' order) c b
+drop-shares p q cells cells' order bits h n i c b m ne x y l r e same z =
+    let s = held_with p cells order in
+    let s' = held_with q cells' order in
     let w = last-lower s bits h n i c b ne x y r.way in
     let child = get_or c.cells b 0 in
     let f : s'.free ≡ (drop_last s bits (h - 1) child i).store.free = ap (λ (d : Made). d.store.free) e in
     let o = drop-free s bits (h - 1) child i in
-    let k = kept p q same (ap (λ (d : Made). d.store.order) e ∙ drop-order s bits (h - 1) child i) in
+    let k = kept p q cells cells' order same z in
     let small = height-small s bits h r in
     let some = pos_of_ne-zero ne in
     let room : Room node_cells (drop_last s bits (h - 1) child i).store.counts = drop-room s bits (h - 1) child i node_cells (omega arith) w.1 (room-less _ (node_cells * suc h) s.counts (omega arith) r.room) in

@@ -17,8 +17,8 @@ use Rattle.meaning.specs.Shape.{bucket}
 use Rattle.store.specs.Store.{Store, node_count, raises, top, make}
 use Rattle.store.specs.Ready.{Sized, FreeOnTop, Room, AllBelow}
 use Rattle.store.specs.Answers.{others}
-use Rattle.store.specs.Lent.{held, SameSlices}
-use Rattle.store.specs.declared.Store as code
+use Rattle.store.specs.Lent.{nodes_with, held_with, SameMarks}
+use Rattle.store.specs.declared.Marks.{Marks}
 use Rattle.records.specs.declared.NodeNo.{NodeNo}
 use Rattle.store.proofs.Raising.{below_at, below-fewer, room-less, room-raises}
 use Rattle.shape.proofs.Powers.{shift_falls}
@@ -112,8 +112,8 @@ pub record Kept (s s' : Store) : Type 0 where
   pub cells : length s'.nodes.cells ≡ length s.nodes.cells
   pub order : s'.order ≡ s.order
 
-pub kept : (p q : code.Store) → SameSlices p q → q.order.now ≡ p.order.now → Kept (held p) (held q)
-kept p q k e = record { kinds = k.kinds.length; used = k.used.length; counts = k.counts.length; cells = k.cells.length; order = e }
+pub kept : (p q : Marks) (cells cells' order : List ℕ) → SameMarks p q → length cells' ≡ length cells → Kept (held_with p cells order) (held_with q cells' order)
+kept p q cells cells' order k l = record { kinds = k.kinds.length; used = k.used.length; counts = k.counts.length; cells = l; order = refl }
 
 -- once the way below is copied, the branch above it can be made
 pub share-after : {W : Type 0} (s s' : Store) (bits h : ℕ) (c : Source) (b : ℕ) → Ready s bits h W → Kept s s' → b < node_cells → Fork (node_count s) c b
@@ -195,23 +195,17 @@ assoc-leaves s s' bits h k there n i v m l r w e =
     let room : Room node_cells (assoc s bits h there n i v).store.counts = assoc-room s bits h there n i v node_cells (omega arith) w (room-less _ (node_cells * suc k) s.counts (omega arith) r.room) in
     (omega (arith, r.enough), omega arith, rw (ap (λ (d : Made). d.store.counts) e) room)
 
-assoc-order : (s : Store) (bits h : ℕ) (there : Bool) (n i v : ℕ) → (assoc s bits h there n i v).store.order ≡ s.order
-unfolding assoc leaf_with branch_with make
-assoc-order s bits zero there n i v = refl
-assoc-order s bits (suc h) there n i v = assoc-order s bits h (ltb (bucket bits (suc h) i) (source s.nodes there n).used) (get_or (source s.nodes there n).cells (bucket bits (suc h) i) 0) i v
-
-assoc-kept : (p q : code.Store) (bits h : ℕ) (there : Bool) (n i v m : ℕ) → SameSlices p q → made_of (held q) m ≡ assoc (held p) bits h there n i v → Kept (held p) (held q)
-assoc-kept p q bits h there n i v m k e = kept p q k (ap (λ (d : Made). d.store.order) e ∙ assoc-order (held p) bits h there n i v)
-
-pub assoc-shares : (p q : code.Store) (bits h : ℕ) (there : Bool) (n i v : ℕ) (c : Source) (b : ℕ) (o : Option NodeNo) (x : NodeNo) (m : ℕ) → (h ≡ 0 → ⊥)
-    → c ≡ source (held p).nodes there n → b ≡ bucket bits h i → o ≡ then_some (ltb b c.used) x → x.0 ≡ get_or c.cells b 0 → b < node_cells
-    → Ready (held p) bits h (Way (held p) bits h there n i) → made_of (held q) m ≡ assoc (held p) bits (h - 1) (is_some o) (node_number o) i v → SameSlices p q
-    → CanShare (held q) c b
-assoc-shares p q bits h there n i v c b o x m ne e f g k l r d same =
-    let w = way-lower (held p) bits h there n i c b ne e f r.way in
-    let way = way-child (held p) bits (h - 1) (ltb b c.used) (get_or c.cells b 0) i o x g k w.1 in
-    let left = assoc-leaves (held p) (held q) bits (h - 1) h _ _ i v m (omega (arith, pos_of_ne-zero ne)) r way d in
-    share-after (held p) (held q) bits h c b r (assoc-kept p q bits (h - 1) _ _ i v m same d) l w.0 left.0 left.1 left.2
+pub assoc-shares : (p q : Marks) (cells cells' order : List ℕ) (bits h : ℕ) (there : Bool) (n i v : ℕ) (c : Source) (b : ℕ) (o : Option NodeNo) (x : NodeNo) (m : ℕ) → (h ≡ 0 → ⊥)
+    → c ≡ source (nodes_with p cells) there n → b ≡ bucket bits h i → o ≡ then_some (ltb b c.used) x → x.0 ≡ get_or c.cells b 0 → b < node_cells
+    → Ready (held_with p cells order) bits h (Way (held_with p cells order) bits h there n i)
+    → made_of (held_with q cells' order) m ≡ assoc (held_with p cells order) bits (h - 1) (is_some o) (node_number o) i v → SameMarks p q → length cells' ≡ length cells
+    → CanShare (held_with q cells' order) c b
+assoc-shares p q cells cells' order bits h there n i v c b o x m ne e f g k l r d same z =
+    let s = held_with p cells order in
+    let w = way-lower s bits h there n i c b ne e f r.way in
+    let way = way-child s bits (h - 1) (ltb b c.used) (get_or c.cells b 0) i o x g k w.1 in
+    let left = assoc-leaves s (held_with q cells' order) bits (h - 1) h _ _ i v m (omega (arith, pos_of_ne-zero ne)) r way d in
+    share-after s (held_with q cells' order) bits h c b r (kept p q cells cells' order same z) l w.0 left.0 left.1 left.2
 
 -- ---- `grow`
 
@@ -224,13 +218,15 @@ unfolding AllBelow
 one_below n root xs h zero l = h
 one_below n root xs h (suc i) l = absurd (omega arith)
 
-pub grow-shares : (p q : code.Store) (bits h root i v m : ℕ) → Ready (held p) bits (suc h) (WayBeyond (held p) bits h root i)
-    → made_of (held q) m ≡ assoc (held p) bits h false 0 i v → SameSlices p q → CanShare (held q) (over_root root) 1
-grow-shares p q bits h root i v m r e k =
-    let o = assoc-leaves (held p) (held q) bits h (suc h) false 0 i v m (omega arith) r r.way.1 e in
-    let n = node_count (held p) in
+pub grow-shares : (p q : Marks) (cells cells' order : List ℕ) (bits h root i v m : ℕ) → Ready (held_with p cells order) bits (suc h) (WayBeyond (held_with p cells order) bits h root i)
+    → made_of (held_with q cells' order) m ≡ assoc (held_with p cells order) bits h false 0 i v → SameMarks p q → length cells' ≡ length cells
+    → CanShare (held_with q cells' order) (over_root root) 1
+grow-shares p q cells cells' order bits h root i v m r e k z =
+    let s = held_with p cells order in
+    let o = assoc-leaves s (held_with q cells' order) bits h (suc h) false 0 i v m (omega arith) r r.way.1 e in
+    let n = node_count s in
     let f : Fork n (over_root root) 1 = record { few = omega arith; next = omega arith; children = one_below n root (replicate (node_cells - 1) 0) r.way.0 } in
-    share-after (held p) (held q) bits (suc h) (over_root root) 1 r (assoc-kept p q bits h false 0 i v m k e) (omega arith) f o.0 o.1 o.2
+    share-after s (held_with q cells' order) bits (suc h) (over_root root) 1 r (kept p q cells cells' order k z) (omega arith) f o.0 o.1 o.2
 
 pub root-grown : (s : Store) (bits h root i v : ℕ) (r m : Made) → r ≡ assoc s bits h false 0 i v → m ≡ branch_with (over_root root) 1 r → m ≡ grow s bits h root i v
 unfolding grow

@@ -1,8 +1,9 @@
 // Module 3: path copying. The nodes from a root to one leaf are made anew, bottom up, and everything beside them is shared.
 #![tactic(auto)]
 
-ghost use Rattle.std.specs.Prelude.{◌≡◌, true, None, is_some, suc};
-ghost use Rattle.store.specs.Lent.{held, SameSlices};
+ghost use Rattle.std.specs.Prelude.{◌≡◌, true, None, is_some, List, ℕ, suc};
+ghost use Rattle.store.specs.Store.{nodes_of};
+ghost use Rattle.store.specs.Lent.{nodes_with, held_with, SameMarks};
 ghost use Rattle.paths.specs.Paths.{source, leaf_with, branch_with, assoc, grow};
 ghost use Rattle.paths.specs.Edits.{empty_leaf};
 ghost use Rattle.paths.specs.Ready.{made_of, source_of, node_number, HasCells, CanMake, CanShare, Way, WayBeyond, Ready};
@@ -10,7 +11,7 @@ ghost use Rattle.paths.specs.Ready.{made_of, source_of, node_number, HasCells, C
 use limits::NODE_CELLS;
 use records::NodeNo;
 use shape::vector_utils;
-use store::{NodeKind, Store};
+use store::{Marks, NodeKind};
 
 // A node that is copied: its cells, and how many it uses.
 #[derive(Clone, Copy)]
@@ -20,14 +21,14 @@ pub struct Source {
 }
 
 // A node copied out whole, or a new one of which nothing is used yet. Its kind does not matter.
-pub fn source_of(store: &Store, node: Option<NodeNo>) -> Source
-    requires { is_some node ≡ true → HasCells store.now.used.now store.now.cells.now (node_number node) }
-    ensures { source_of result.cells result.used ≡ source (held store.now).nodes (is_some node) (node_number node) }
+pub fn source_of(used: &[u8], cells: &[u32], node: Option<NodeNo>) -> Source
+    requires { is_some node ≡ true → HasCells used.now cells.now (node_number node) }
+    ensures { (kinds : List ℕ) → source_of result.cells result.used ≡ source (nodes_of kinds used.now cells.now) (is_some node) (node_number node) }
 {
     match node {
         Some(n) => Source {
-            cells: store.cells_of(n),
-            used: store.used[n.0 as usize],
+            cells: store::cells_of(cells, n),
+            used: used[n.0 as usize],
         },
         None => Source {
             cells: [0; NODE_CELLS],
@@ -36,74 +37,111 @@ pub fn source_of(store: &Store, node: Option<NodeNo>) -> Source
     }
 }
 
-pub fn new_empty_leaf(store: &mut Store) -> NodeNo
-    requires { CanMake (held store.old) 0 }
-    ensures same_slices { SameSlices store.old store.new }
-    ensures made { made_of (held store.new) result.0 ≡ empty_leaf (held store.old) }
+// The same for those that hold the used numbers among marks.
+pub fn source_in(marks: &Marks, cells: &[u32], node: Option<NodeNo>) -> Source
+    requires { is_some node ≡ true → HasCells marks.now.used.now cells.now (node_number node) }
+    ensures { source_of result.cells result.used ≡ source (nodes_with marks.now cells.now) (is_some node) (node_number node) }
 {
-    store.make(NodeKind::Leaf, 0, [0; NODE_CELLS])
+    let used = &*marks.used;
+    source_of(used, cells, node)
 }
 
-pub fn leaf_with(store: &mut Store, c: Source, b: usize, value: u32) -> NodeNo
-    requires { CanMake (held store.old) b }
-    ensures same_slices { SameSlices store.old store.new }
-    ensures made { made_of (held store.new) result.0 ≡ leaf_with (held store.old) (source_of c.cells c.used) b value }
+pub fn new_empty_leaf(marks: &mut Marks, cells: &mut [u32], order: &[u32]) -> NodeNo
+    requires { CanMake (held_with marks.old cells.old order.now) 0 }
+    ensures same_marks { SameMarks marks.old marks.new }
+    ensures made { made_of (held_with marks.new cells.new order.now) result.0 ≡ empty_leaf (held_with marks.old cells.old order.now) }
 {
-    let mut cells = c.cells;
-    cells[b] = value;
-    store.make(NodeKind::Leaf, c.used.max(b as u8 + 1), cells)
+    marks.make(cells, order, NodeKind::Leaf, 0, [0; NODE_CELLS])
+}
+
+pub fn leaf_with(
+    marks: &mut Marks,
+    cells: &mut [u32],
+    order: &[u32],
+    c: Source,
+    b: usize,
+    value: u32,
+) -> NodeNo
+    requires { CanMake (held_with marks.old cells.old order.now) b }
+    ensures same_marks { SameMarks marks.old marks.new }
+    ensures made { made_of (held_with marks.new cells.new order.now) result.0
+        ≡ leaf_with (held_with marks.old cells.old order.now) (source_of c.cells c.used) b value }
+{
+    let mut contents = c.cells;
+    contents[b] = value;
+    marks.make(cells, order, NodeKind::Leaf, c.used.max(b as u8 + 1), contents)
 }
 
 // The other children are shared: each gets one link more.
-pub fn branch_with(store: &mut Store, c: Source, b: usize, child: NodeNo) -> NodeNo
-    requires { CanShare (held store.old) (source_of c.cells c.used) b }
-    ensures same_slices { SameSlices store.old store.new }
-    ensures made { made_of (held store.new) result.0 ≡ branch_with (source_of c.cells c.used) b (made_of (held store.old) child.0) }
+pub fn branch_with(
+    marks: &mut Marks,
+    cells: &mut [u32],
+    order: &[u32],
+    c: Source,
+    b: usize,
+    child: NodeNo,
+) -> NodeNo
+    requires { CanShare (held_with marks.old cells.old order.now) (source_of c.cells c.used) b }
+    ensures same_marks { SameMarks marks.old marks.new }
+    ensures made { made_of (held_with marks.new cells.new order.now) result.0
+        ≡ branch_with (source_of c.cells c.used) b (made_of (held_with marks.old cells.old order.now) child.0) }
 {
-    let mut cells = c.cells;
-    store::raise_others(store.counts, &c.cells[..c.used as usize], b);
-    cells[b] = child.0;
-    store.make(NodeKind::Branch, c.used.max(b as u8 + 1), cells)
+    let mut contents = c.cells;
+    store::raise_others(marks.counts, &c.cells[..c.used as usize], b);
+    contents[b] = child.0;
+    marks.make(cells, order, NodeKind::Branch, c.used.max(b as u8 + 1), contents)
 }
 
 // The way to an index below a node of that height, copied with a value there. A node that is not there is made.
 pub fn assoc(
-    store: &mut Store,
+    marks: &mut Marks,
+    cells: &mut [u32],
+    order: &[u32],
     bits: u32,
     height: u32,
     node: Option<NodeNo>,
     index: u32,
     value: u32,
 ) -> NodeNo
-    requires { Ready (held store.old) bits height (Way (held store.old) bits height (is_some node) (node_number node) index) }
-    ensures same_slices { SameSlices store.old store.new }
-    ensures made { made_of (held store.new) result.0 ≡ assoc (held store.old) bits height (is_some node) (node_number node) index value }
+    requires { Ready (held_with marks.old cells.old order.now) bits height
+        (Way (held_with marks.old cells.old order.now) bits height (is_some node) (node_number node) index) }
+    ensures same_marks { SameMarks marks.old marks.new }
+    ensures made { made_of (held_with marks.new cells.new order.now) result.0
+        ≡ assoc (held_with marks.old cells.old order.now) bits height (is_some node) (node_number node) index value }
 {
-    let c = source_of(store, node);
+    let c = source_in(marks, cells, node);
     let b = vector_utils::bucket(bits, index, height) as usize;
     if height == 0 {
-        return leaf_with(store, c, b, value);
+        return leaf_with(marks, cells, order, c, b, value);
     }
     let child = (b < c.used as usize).then_some(NodeNo(c.cells[b]));
-    let copy = assoc(store, bits, height - 1, child, index, value);
-    branch_with(store, c, b, copy)
+    let copy = assoc(marks, cells, order, bits, height - 1, child, index, value);
+    branch_with(marks, cells, order, c, b, copy)
 }
 
 // A new root over a full one of that height, with the way to the first index beyond it.
 pub fn grow(
-    store: &mut Store,
+    marks: &mut Marks,
+    cells: &mut [u32],
+    order: &[u32],
     bits: u32,
     height: u32,
     root: NodeNo,
     index: u32,
     value: u32,
 ) -> NodeNo
-    requires { Ready (held store.old) bits (suc height) (WayBeyond (held store.old) bits height root.0 index) }
-    ensures same_slices { SameSlices store.old store.new }
-    ensures made { made_of (held store.new) result.0 ≡ grow (held store.old) bits height root.0 index value }
+    requires { Ready (held_with marks.old cells.old order.now) bits (suc height)
+        (WayBeyond (held_with marks.old cells.old order.now) bits height root.0 index) }
+    ensures same_marks { SameMarks marks.old marks.new }
+    ensures made { made_of (held_with marks.new cells.new order.now) result.0
+        ≡ grow (held_with marks.old cells.old order.now) bits height root.0 index value }
 {
-    let copy = assoc(store, bits, height, None, index, value);
-    let mut cells = [0; NODE_CELLS];
-    cells[0] = root.0;
-    branch_with(store, Source { cells, used: 1 }, 1, copy)
+    let copy = assoc(marks, cells, order, bits, height, None, index, value);
+    let mut over = [0; NODE_CELLS];
+    over[0] = root.0;
+    let source = Source {
+        cells: over,
+        used: 1,
+    };
+    branch_with(marks, cells, order, source, 1, copy)
 }

@@ -1,13 +1,13 @@
 // Module 2: a store of nodes in slices that the caller lends.
 #![tactic(auto)]
 
-ghost use Rattle.std.specs.Prelude.{◌≡◌, ◌+◌, ◌*◌, ◌≤◌, ◌<◌, length};
+ghost use Rattle.std.specs.Prelude.{◌≡◌, ◌+◌, ◌-◌, ◌*◌, ◌≤◌, ◌<◌, length, get_or};
 ghost use Rattle.meaning.specs.Limits.{node_cells};
 ghost use Rattle.cells.specs.Cells.{cells_of};
-ghost use Rattle.store.specs.Store.{raise, raises, top};
+ghost use Rattle.store.specs.Store.{raise, raises};
 ghost use Rattle.store.specs.Ready.{Sized, FreeOnTop, HasPlace, Room, AllBelow};
 ghost use Rattle.store.specs.Answers.{Written, Makes, others};
-ghost use Rattle.store.specs.Lent.{held, SameSlices, kind_byte};
+ghost use Rattle.store.specs.Lent.{nodes_with, held_with, SameMarks, kind_byte};
 
 use limits::{BRANCH, LEAF, NODE_CELLS};
 use records::NodeNo;
@@ -27,62 +27,80 @@ impl NodeKind {
     }
 }
 
-// The lent slices, one entry a node in each, but 32 cells; the first `free` of the order are the numbers of free nodes.
+// What making nodes and giving them back both write: a node's kind, its used number and its count, and how many are free. The cells and the free order are lent beside it: making reads the order alone, giving back the cells alone.
 #[derive(Drop)]
-pub struct Store<'a> {
+pub struct Marks<'a> {
     pub kinds: &'a mut [u8],
     pub used: &'a mut [u8],
     pub counts: &'a mut [u32],
-    pub cells: &'a mut [u32],
-    pub order: &'a mut [u32],
     pub free: usize,
 }
 
-impl Store<'_> {
-    // The free node that is taken next.
-    #[tactic(auto, unfolding(crate::specs::Store::top))]
-    pub fn top(&self) -> NodeNo
-        requires { (0 < self.now.free) × (self.now.free ≤ length self.now.order.now) }
-        ensures { result.0 ≡ top (held self.now) }
-    {
-        NodeNo(self.order[self.free - 1])
-    }
+// The lent slices, one entry a node in each, but 32 cells; the first `free` of the order are the numbers of free nodes.
+#[derive(Drop)]
+pub struct Store<'a> {
+    pub marks: Marks<'a>,
+    pub cells: &'a mut [u32],
+    pub order: &'a mut [u32],
+}
 
-    // The cells of a node, copied out whole.
-    pub fn cells_of(&self, n: NodeNo) -> [u32; NODE_CELLS]
-        requires { node_cells * n.0 + node_cells ≤ length self.now.cells.now }
-        ensures { result ≡ cells_of self.now.cells.now n.0 }
-    {
-        let cells = &*self.cells;
-        cells::cells_of(cells, n.0 as usize)
-    }
+// The free node that is taken next.
+pub fn top(order: &[u32], free: usize) -> NodeNo
+    requires { (0 < free) × (free ≤ length order.now) }
+    ensures { result.0 ≡ get_or order.now (free - 1) 0 }
+{
+    NodeNo(order[free - 1])
+}
 
+// The cells of a node, copied out whole.
+pub fn cells_of(cells: &[u32], n: NodeNo) -> [u32; NODE_CELLS]
+    requires { node_cells * n.0 + node_cells ≤ length cells.now }
+    ensures { result ≡ cells_of cells.now n.0 }
+{
+    cells::cells_of(cells, n.0 as usize)
+}
+
+impl Marks<'_> {
     // Writes a node whole, with a count of 1. Its kind may be any byte, as in what is lent.
     #[tactic(auto, unfolding(crate::specs::Store::write_node))]
-    pub fn write(&mut self, n: NodeNo, kind: u8, used: u8, cells: [u32; NODE_CELLS])
-        requires { HasPlace (held self.old).nodes (held self.old).counts n.0 }
-        ensures same_slices { SameSlices self.old self.new }
-        ensures written { Written (held self.old).nodes (held self.old).counts n.0 kind used cells (held self.new).nodes (held self.new).counts }
-        ensures order { self.new.order.now ≡ self.old.order.now }
+    pub fn write(
+        &mut self,
+        cells: &mut [u32],
+        n: NodeNo,
+        kind: u8,
+        used: u8,
+        contents: [u32; NODE_CELLS],
+    )
+        requires { HasPlace (nodes_with self.old cells.old) self.old.counts.now n.0 }
+        ensures same_marks { SameMarks self.old self.new }
+        ensures written { Written (nodes_with self.old cells.old) self.old.counts.now n.0 kind used contents
+            (nodes_with self.new cells.new) self.new.counts.now }
         ensures free { self.new.free ≡ self.old.free }
     {
         let i = n.0 as usize;
         self.kinds[i] = kind;
         self.used[i] = used;
         self.counts[i] = 1;
-        cells::put_cells(self.cells, i, cells);
+        cells::put_cells(cells, i, contents);
     }
 
     // Takes the node on top of the free order and writes it. The counts of its children are the caller's to raise.
     #[tactic(auto, unfolding(crate::specs::Store::make))]
-    pub fn make(&mut self, kind: NodeKind, used: u8, cells: [u32; NODE_CELLS]) -> NodeNo
-        requires sized { Sized (held self.old) }
-        requires free_on_top { FreeOnTop (held self.old) }
-        ensures same_slices { SameSlices self.old self.new }
-        ensures makes { Makes (held self.old) (kind_byte kind) used cells (held self.new) result.0 }
+    pub fn make(
+        &mut self,
+        cells: &mut [u32],
+        order: &[u32],
+        kind: NodeKind,
+        used: u8,
+        contents: [u32; NODE_CELLS],
+    ) -> NodeNo
+        requires sized { Sized (held_with self.old cells.old order.now) }
+        requires free_on_top { FreeOnTop (held_with self.old cells.old order.now) }
+        ensures same_marks { SameMarks self.old self.new }
+        ensures makes { Makes (held_with self.old cells.old order.now) (kind_byte kind) used contents (held_with self.new cells.new order.now) result.0 }
     {
-        let node = self.top();
-        self.write(node, kind.byte(), used, cells);
+        let node = top(order, self.free);
+        self.write(cells, node, kind.byte(), used, contents);
         self.free -= 1;
         node
     }

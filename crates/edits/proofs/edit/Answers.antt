@@ -10,7 +10,7 @@ pub share-requires : goal.share-requires
 share-requires c = (c.requires.able c.if-f-eq-NEW.false).link
 
 pub returns-then-shares-clause-acted : goal.returns-then-shares-clause-acted
-returns-then-shares-clause-acted c = edit-shares _ (frame_of c.args.f) (record_of c.args.v) _ _ c.if-f-eq-NEW.false c.if-shares.true c.share.ensures.acted
+returns-then-shares-clause-acted c = edit-shares _ (frame_of c.args.f) (record_of c.args.v) _ _ c.if-f-eq-NEW.false c.if-shares.true (c.share.ensures.acted _ _)
 
 pub edit_path-requires : goal.edit_path-requires
 edit_path-requires c = c.requires.able c.if-f-eq-NEW.false

@@ -14,7 +14,7 @@ pub compress_root-requires : goal.compress_root-requires
 compress_root-requires c = compress-can _ (record_of c.args.v) _ c.requires (sym c.loses_root.ensures ∙ c.if-loses_root.true)
 
 pub returns-then-loses_root-clause-dropped : goal.returns-then-loses_root-clause-dropped
-returns-then-loses_root-clause-dropped c = drop-root _ (record_of c.args.v) _ _ c.requires.height c.if-v-eq1.false (sym c.loses_root.ensures ∙ c.if-loses_root.true) c.compress_root.ensures.made
+returns-then-loses_root-clause-dropped c = drop-root _ (record_of c.args.v) _ _ c.requires.height c.if-v-eq1.false (sym c.loses_root.ensures ∙ c.if-loses_root.true) (c.compress_root.ensures _ _ _ _)
 
 pub returns-clause-dropped : goal.returns-clause-dropped
 returns-clause-dropped c = drop-made _ (record_of c.args.v) _ _ c.requires.height c.if-v-eq1.false (sym c.loses_root.ensures ∙ c.if-loses_root.false) c.drop_last.ensures.made
