@@ -20,11 +20,19 @@ use store::Store;
 use walk::Walks;
 
 // The operations that leave the walks alone.
-fn act_on_store(store: &mut Store, f: Frame, v: Version, w: Version, old: Version) -> Served
-    requires { Sources (held store.old) (frame_of f) (record_of v) (record_of w) }
+fn act_on_store(
+    store: &mut Store,
+    cells: &mut [u32],
+    order: &mut [u32],
+    f: Frame,
+    v: Version,
+    w: Version,
+    old: Version,
+) -> Served
+    requires { Sources (held store.old cells.old order.old) (frame_of f) (record_of v) (record_of w) }
     ensures same_slices { SameSlices store.old store.new }
     ensures free { result.free ≡ store.new.free }
-    ensures acted { acted_of (held store.new) result ≡ store_act (held store.old) (frame_of f) (record_of v) (record_of w) (record_of old) }
+    ensures acted { acted_of (held store.new cells.new order.new) result ≡ store_act (held store.old cells.old order.old) (frame_of f) (record_of v) (record_of w) (record_of old) }
 {
     let edits = (f.operation == operations::NEW)
         | (f.operation == operations::CLONE)
@@ -33,34 +41,36 @@ fn act_on_store(store: &mut Store, f: Frame, v: Version, w: Version, old: Versio
         | (f.operation == operations::DROP_LAST)
         | (f.operation == operations::HAND_OVER);
     if edits {
-        return edits::edit(store, f, v, old);
+        return edits::edit(store, cells, order, f, v, old);
     }
     if f.operation == operations::RELEASE {
-        return edits::release(store, v);
+        return edits::release(store, cells, order, v);
     }
-    reads::read(store, f, v, w, old)
+    reads::read(cells, store.free, f, v, w, old)
 }
 
 pub fn act(
     store: &mut Store,
+    cells: &mut [u32],
+    order: &mut [u32],
     walks: &mut Walks,
     f: Frame,
     v: Version,
     w: Version,
     old: Version,
 ) -> Served
-    requires { Serviceable (held store.old) (walks_of walks.old) (frame_of f) (record_of v) (record_of w) }
+    requires { Serviceable (held store.old cells.old order.old) (walks_of walks.old) (frame_of f) (record_of v) (record_of w) }
     ensures same_slices { SameSlices store.old store.new }
     ensures free { result.free ≡ store.new.free }
-    ensures acted { with_walks (acted_of (held store.new) result) (walks_of walks.new)
-        ≡ act (held store.old) (walks_of walks.old) (frame_of f) (record_of v) (record_of w) (record_of old) }
+    ensures acted { with_walks (acted_of (held store.new cells.new order.new) result) (walks_of walks.new)
+        ≡ act (held store.old cells.old order.old) (walks_of walks.old) (frame_of f) (record_of v) (record_of w) (record_of old) }
 {
     let on_walk = (f.operation == operations::NEXT)
         | (f.operation == operations::NEXT_BACK)
         | (f.operation == operations::OPEN_WALK)
         | (f.operation == operations::CLOSE_WALK);
     if on_walk {
-        return walks::act_on_walk(store, walks, f, v, old);
+        return walks::act_on_walk(store, cells, order, walks, f, v, old);
     }
-    act_on_store(store, f, v, w, old)
+    act_on_store(store, cells, order, f, v, w, old)
 }

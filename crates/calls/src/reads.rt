@@ -9,7 +9,6 @@ use limits::operations;
 use records::Version;
 use requests::Frame;
 use served::Served;
-use store::Store;
 
 fn word(n: usize) -> u32
     requires { n ≤ max_nodes }
@@ -18,12 +17,10 @@ fn word(n: usize) -> u32
     n as u32
 }
 
-pub fn read(store: &Store, f: Frame, v: Version, w: Version, old: Version) -> Served
-    requires { Readable (frame_of f) store.now.free (record_of v) (record_of w) }
-    ensures { result ≡ read_with store.now.cells.now store.now.free (frame_of f) v w old }
+pub fn read(cells: &[u32], free: usize, f: Frame, v: Version, w: Version, old: Version) -> Served
+    requires { Readable (frame_of f) free (record_of v) (record_of w) }
+    ensures { result ≡ read_with cells.now free (frame_of f) v w old }
 {
-    let cells = &*store.cells;
-    let free = store.free;
     if f.operation == operations::GET {
         return served::of_got(lookup::get(cells, v, f.index), free, old);
     }

@@ -1,5 +1,5 @@
 // The operations on walks: open, next, next_back and close.
-ghost use Rattle.std.specs.Prelude.{◌≡◌, Bool, ◌+◌, ◌*◌, ◌%◌, ◌<◌};
+ghost use Rattle.std.specs.Prelude.{◌≡◌, List, ℕ, Bool, ◌+◌, ◌*◌, ◌%◌, ◌<◌};
 ghost use Rattle.meaning.specs.Limits.{walk_count};
 ghost use Rattle.records.specs.Records.{record_of};
 ghost use Rattle.store.specs.Lent.{held, SameSlices};
@@ -29,32 +29,45 @@ fn open(store: &mut Store, walks: &mut Walks, n: usize, v: Version, old: Version
     requires place { n < walk_count }
     ensures same_slices { SameSlices store.old store.new }
     ensures free { result.free ≡ store.new.free }
-    ensures opens { Opens (held store.old) (walks_of walks.old) n (record_of v) old (held store.new) (walks_of walks.new) result }
+    ensures opens { (cells order : List ℕ) → Opens (held store.old cells order) (walks_of walks.old) n (record_of v) old (held store.new cells order) (walks_of walks.new) result }
 {
     store::raise(store.counts, NodeNo(v.root));
     walks.open(n, v);
     served::answered(0, store.free, old)
 }
 
-fn close(store: &mut Store, walks: &mut Walks, n: usize, old: Version) -> Served
-    requires release { Releasable (held store.old) (version_of_walk walks.old.numbers n).root }
+fn close(
+    store: &mut Store,
+    cells: &[u32],
+    order: &mut [u32],
+    walks: &mut Walks,
+    n: usize,
+    old: Version,
+) -> Served
+    requires release { Releasable (held store.old cells.now order.old) (version_of_walk walks.old.numbers n).root }
     requires place { n < walk_count }
     ensures same_slices { SameSlices store.old store.new }
     ensures free { result.free ≡ store.new.free }
-    ensures closes { Closes (held store.old) (walks_of walks.old) n old (held store.new) (walks_of walks.new) result }
+    ensures closes { Closes (held store.old cells.now order.old) (walks_of walks.old) n old (held store.new cells.now order.new) (walks_of walks.new) result }
 {
     let v = walks.version(n);
-    sweep::release(store, NodeNo(v.root));
+    sweep::release(store, cells, order, NodeNo(v.root));
     walks.close(n);
     served::answered(0, store.free, old)
 }
 
-fn step(store: &Store, walks: &mut Walks, n: usize, back: bool, old: Version) -> Served
+fn step(
+    store: &Store,
+    cells: &[u32],
+    walks: &mut Walks,
+    n: usize,
+    back: bool,
+    old: Version,
+) -> Served
     requires { Walkable walks.old.numbers n }
     ensures free { result.free ≡ store.now.free }
-    ensures steps { Steps (taken_by store.now.cells.now store.now.used.now back (walks_of walks.old) n) store.now.free old (walks_of walks.new) result }
+    ensures steps { Steps (taken_by cells.now store.now.used.now back (walks_of walks.old) n) store.now.free old (walks_of walks.new) result }
 {
-    let cells = &*store.cells;
     let used = &*store.used;
     let g = walks.take(cells, used, n, back);
     served::of_got(g, store.free, old)
@@ -62,16 +75,18 @@ fn step(store: &Store, walks: &mut Walks, n: usize, back: bool, old: Version) ->
 
 pub fn act_on_walk(
     store: &mut Store,
+    cells: &[u32],
+    order: &mut [u32],
     walks: &mut Walks,
     f: Frame,
     v: Version,
     old: Version,
 ) -> Served
-    requires { OnWalk (held store.old) (walks_of walks.old) (frame_of f) (record_of v) }
+    requires { OnWalk (held store.old cells.now order.old) (walks_of walks.old) (frame_of f) (record_of v) }
     ensures same_slices { SameSlices store.old store.new }
     ensures free { result.free ≡ store.new.free }
-    ensures acted { with_walks (acted_of (held store.new) result) (walks_of walks.new)
-        ≡ walk_act (held store.old) (walks_of walks.old) (frame_of f) (record_of v) (record_of old) }
+    ensures acted { with_walks (acted_of (held store.new cells.now order.new) result) (walks_of walks.new)
+        ≡ walk_act (held store.old cells.now order.old) (walks_of walks.old) (frame_of f) (record_of v) (record_of old) }
 {
     if f.operation == operations::OPEN_WALK {
         let n = walk_place(f.party, f.destination);
@@ -79,8 +94,8 @@ pub fn act_on_walk(
     }
     let n = walk_place(f.party, f.slot);
     if f.operation == operations::CLOSE_WALK {
-        return close(store, walks, n, old);
+        return close(store, cells, order, walks, n, old);
     }
     let back = f.operation == operations::NEXT_BACK;
-    step(store, walks, n, back, old)
+    step(store, cells, walks, n, back, old)
 }

@@ -16,8 +16,8 @@ use Rattle.meaning.specs.Shape.{degree, bucket}
 use Rattle.cells.specs.Cells.{cells_of}
 use Rattle.store.specs.Store.{Store, node_count, raise, raises, make}
 use Rattle.store.specs.Ready.{Sized, Room}
-use Rattle.store.specs.Lent.{nodes_with, held_with, SameMarks}
-use Rattle.store.specs.declared.Marks.{Marks}
+use Rattle.store.specs.Lent.{nodes_with, held, SameSlices}
+use Rattle.store.specs.declared.Store as code
 use Rattle.store.proofs.Raising.{room-less, room-raises}
 use Rattle.shape.proofs.Powers.{degree-power, one-shifts}
 use Rattle.paths.specs.Paths.{Made, Source, source, branch_with, leaf_cut, branch_cut, drop_last}
@@ -115,13 +115,13 @@ pub drop-lower : (s : Store) (bits h n i : ℕ) (c : Source) (b : ℕ) → (h �
     → Ready s bits h (WayToLast s bits h n i) → Ready s bits (h - 1) (WayToLast s bits (h - 1) (get_or c.cells b 0) i)
 drop-lower s bits h n i c b ne p q r = ready-lower s bits h ne r (last-lower s bits h n i c b ne p q r.way).1
 
-pub drop-shares : (p q : Marks) (cells cells' order : List ℕ) (bits h n i : ℕ) (c : Source) (b m : ℕ) → (h ≡ 0 → ⊥) → c ≡ source (nodes_with p cells) true n → b ≡ bucket bits h i
-    → b < node_cells → Ready (held_with p cells order) bits h (WayToLast (held_with p cells order) bits h n i)
-    → made_of (held_with q cells' order) m ≡ drop_last (held_with p cells order) bits (h - 1) (get_or c.cells b 0) i
-    → SameMarks p q → length cells' ≡ length cells → CanShare (held_with q cells' order) c b
+pub drop-shares : (p q : code.Store) (cells cells' order : List ℕ) (bits h n i : ℕ) (c : Source) (b m : ℕ) → (h ≡ 0 → ⊥) → c ≡ source (nodes_with p cells) true n → b ≡ bucket bits h i
+    → b < node_cells → Ready (held p cells order) bits h (WayToLast (held p cells order) bits h n i)
+    → made_of (held q cells' order) m ≡ drop_last (held p cells order) bits (h - 1) (get_or c.cells b 0) i
+    → SameSlices p q → length cells' ≡ length cells → CanShare (held q cells' order) c b
 drop-shares p q cells cells' order bits h n i c b m ne x y l r e same z =
-    let s = held_with p cells order in
-    let s' = held_with q cells' order in
+    let s = held p cells order in
+    let s' = held q cells' order in
     let w = last-lower s bits h n i c b ne x y r.way in
     let child = get_or c.cells b 0 in
     let f : s'.free ≡ (drop_last s bits (h - 1) child i).store.free = ap (λ (d : Made). d.store.free) e in

@@ -8,7 +8,7 @@ ghost use Rattle.meaning.specs.Shape.{degree};
 ghost use Rattle.cells.specs.Cells.{cells_of};
 ghost use Rattle.store.specs.Ready.{Room};
 ghost use Rattle.store.specs.Store.{store_of};
-ghost use Rattle.store.specs.Lent.{held_with, SameMarks};
+ghost use Rattle.store.specs.Lent.{held, SameSlices};
 ghost use Rattle.paths.specs.Paths.{leaf_cut, branch_cut, drop_last};
 ghost use Rattle.paths.specs.Edits.{first_child};
 ghost use Rattle.paths.specs.Ready.{made_of, source_of, CanMake, CanShare, WayToLast, Ready};
@@ -16,7 +16,7 @@ ghost use Rattle.paths.specs.Ready.{made_of, source_of, CanMake, CanShare, WayTo
 use paths::Source;
 use records::NodeNo;
 use shape::vector_utils;
-use store::{Marks, NodeKind};
+use store::{NodeKind, Store};
 
 // Whether an index is the first below some child of a node of that height.
 fn is_first(bits: u32, height: u32, index: u32) -> bool
@@ -27,33 +27,33 @@ fn is_first(bits: u32, height: u32, index: u32) -> bool
 }
 
 // A leaf of the first b values of another.
-fn leaf_cut(marks: &mut Marks, cells: &mut [u32], order: &[u32], c: Source, b: usize) -> NodeNo
-    requires { CanMake (held_with marks.old cells.old order.now) b }
-    ensures same_marks { SameMarks marks.old marks.new }
-    ensures made { made_of (held_with marks.new cells.new order.now) result.0
-        ≡ leaf_cut (held_with marks.old cells.old order.now) (source_of c.cells c.used) b }
+fn leaf_cut(store: &mut Store, cells: &mut [u32], order: &[u32], c: Source, b: usize) -> NodeNo
+    requires { CanMake (held store.old cells.old order.now) b }
+    ensures same_slices { SameSlices store.old store.new }
+    ensures made { made_of (held store.new cells.new order.now) result.0
+        ≡ leaf_cut (held store.old cells.old order.now) (source_of c.cells c.used) b }
 {
     let mut contents = c.cells;
     contents[b] = 0;
-    marks.make(cells, order, NodeKind::Leaf, b as u8, contents)
+    store.make(cells, order, NodeKind::Leaf, b as u8, contents)
 }
 
 // A branch over the first b children of another, which are shared.
-fn branch_cut(marks: &mut Marks, cells: &mut [u32], order: &[u32], c: Source, b: usize) -> NodeNo
-    requires { CanShare (held_with marks.old cells.old order.now) (source_of c.cells c.used) b }
-    ensures same_marks { SameMarks marks.old marks.new }
-    ensures made { made_of (held_with marks.new cells.new order.now) result.0
-        ≡ branch_cut (held_with marks.old cells.old order.now) (source_of c.cells c.used) b }
+fn branch_cut(store: &mut Store, cells: &mut [u32], order: &[u32], c: Source, b: usize) -> NodeNo
+    requires { CanShare (held store.old cells.old order.now) (source_of c.cells c.used) b }
+    ensures same_slices { SameSlices store.old store.new }
+    ensures made { made_of (held store.new cells.new order.now) result.0
+        ≡ branch_cut (held store.old cells.old order.now) (source_of c.cells c.used) b }
 {
-    store::raise_all(marks.counts, &c.cells[..b]);
+    store::raise_all(store.counts, &c.cells[..b]);
     let mut contents = c.cells;
     contents[b] = 0;
-    marks.make(cells, order, NodeKind::Branch, b as u8, contents)
+    store.make(cells, order, NodeKind::Branch, b as u8, contents)
 }
 
 // The way to the last index below a node of that height, copied without it.
 pub fn drop_last(
-    marks: &mut Marks,
+    store: &mut Store,
     cells: &mut [u32],
     order: &[u32],
     bits: u32,
@@ -61,23 +61,23 @@ pub fn drop_last(
     node: NodeNo,
     last: u32,
 ) -> NodeNo
-    requires { Ready (held_with marks.old cells.old order.now) bits height
-        (WayToLast (held_with marks.old cells.old order.now) bits height node.0 last) }
-    ensures same_marks { SameMarks marks.old marks.new }
-    ensures made { made_of (held_with marks.new cells.new order.now) result.0
-        ≡ drop_last (held_with marks.old cells.old order.now) bits height node.0 last }
+    requires { Ready (held store.old cells.old order.now) bits height
+        (WayToLast (held store.old cells.old order.now) bits height node.0 last) }
+    ensures same_slices { SameSlices store.old store.new }
+    ensures made { made_of (held store.new cells.new order.now) result.0
+        ≡ drop_last (held store.old cells.old order.now) bits height node.0 last }
 {
-    let c = paths::source_in(marks, cells, Some(node));
+    let c = paths::source_in(store, cells, Some(node));
     let b = vector_utils::bucket(bits, last, height) as usize;
     if height == 0 {
-        return leaf_cut(marks, cells, order, c, b);
+        return leaf_cut(store, cells, order, c, b);
     }
     if is_first(bits, height, last) {
-        return branch_cut(marks, cells, order, c, b);
+        return branch_cut(store, cells, order, c, b);
     }
     let child = NodeNo(c.cells[b]);
-    let copy = drop_last(marks, cells, order, bits, height - 1, child, last);
-    paths::branch_with(marks, cells, order, c, b, copy)
+    let copy = drop_last(store, cells, order, bits, height - 1, child, last);
+    paths::branch_with(store, cells, order, c, b, copy)
 }
 
 // Whether a drop leaves a root of that height with one child.

@@ -5,7 +5,7 @@ ghost use Rattle.std.specs.Prelude.{◌≡◌, ◌≢◌, List, ℕ};
 ghost use Rattle.meaning.specs.Limits.{new_code};
 ghost use Rattle.meaning.specs.Lent.{Nodes};
 ghost use Rattle.records.specs.Records.{record_of};
-ghost use Rattle.store.specs.Lent.{held_with, SameMarks};
+ghost use Rattle.store.specs.Lent.{held, SameSlices};
 ghost use Rattle.sweep.specs.Ready.{store_on};
 ghost use Rattle.vector.specs.Ready.{Linkable, Steady};
 ghost use Rattle.requests.specs.Requests.{frame_of};
@@ -16,24 +16,31 @@ use limits::operations;
 use records::Version;
 use requests::Frame;
 use served::Served;
-use store::Marks;
+use store::Store;
 
-fn edit_path(marks: &mut Marks, cells: &mut [u32], order: &[u32], f: Frame, v: Version, old: Version) -> Served
-    requires { Able (held_with marks.old cells.old order.now) (record_of v) }
-    ensures same_marks { SameMarks marks.old marks.new }
-    ensures free { result.free ≡ marks.new.free }
-    ensures acted { acted_of (held_with marks.new cells.new order.now) result ≡ path_act (held_with marks.old cells.old order.now) (frame_of f) (record_of v) (record_of old) }
+fn edit_path(
+    store: &mut Store,
+    cells: &mut [u32],
+    order: &[u32],
+    f: Frame,
+    v: Version,
+    old: Version,
+) -> Served
+    requires { Able (held store.old cells.old order.now) (record_of v) }
+    ensures same_slices { SameSlices store.old store.new }
+    ensures free { result.free ≡ store.new.free }
+    ensures acted { acted_of (held store.new cells.new order.now) result ≡ path_act (held store.old cells.old order.now) (frame_of f) (record_of v) (record_of old) }
 {
     if f.operation == operations::SET {
-        let e = vector::set(marks, cells, order, v, f.index, f.value);
-        return served::of_edited(e, marks.free, old);
+        let e = vector::set(store, cells, order, v, f.index, f.value);
+        return served::of_edited(e, store.free, old);
     }
     if f.operation == operations::PUSH_BACK {
-        let e = vector::push_back(marks, cells, order, v, f.value);
-        return served::of_edited(e, marks.free, old);
+        let e = vector::push_back(store, cells, order, v, f.value);
+        return served::of_edited(e, store.free, old);
     }
-    let e = vector::drop_last(marks, cells, order, v);
-    served::of_edited(e, marks.free, old)
+    let e = vector::drop_last(store, cells, order, v);
+    served::of_edited(e, store.free, old)
 }
 
 fn share(counts: &mut [u32], free: usize, v: Version) -> Served
@@ -46,30 +53,37 @@ fn share(counts: &mut [u32], free: usize, v: Version) -> Served
 }
 
 // New, clone, set, push_back, drop_last and hand-over.
-pub fn edit(marks: &mut Marks, cells: &mut [u32], order: &[u32], f: Frame, v: Version, old: Version) -> Served
-    requires steady { Steady (held_with marks.old cells.old order.now) }
-    requires able { f.operation ≢ new_code → Able (held_with marks.old cells.old order.now) (record_of v) }
-    ensures same_marks { SameMarks marks.old marks.new }
-    ensures free { result.free ≡ marks.new.free }
-    ensures acted { acted_of (held_with marks.new cells.new order.now) result ≡ edit_act (held_with marks.old cells.old order.now) (frame_of f) (record_of v) (record_of old) }
+pub fn edit(
+    store: &mut Store,
+    cells: &mut [u32],
+    order: &[u32],
+    f: Frame,
+    v: Version,
+    old: Version,
+) -> Served
+    requires steady { Steady (held store.old cells.old order.now) }
+    requires able { f.operation ≢ new_code → Able (held store.old cells.old order.now) (record_of v) }
+    ensures same_slices { SameSlices store.old store.new }
+    ensures free { result.free ≡ store.new.free }
+    ensures acted { acted_of (held store.new cells.new order.now) result ≡ edit_act (held store.old cells.old order.now) (frame_of f) (record_of v) (record_of old) }
 {
     if f.operation == operations::NEW {
-        let e = vector::new_with_bits(marks, cells, order, f.index);
-        return served::of_edited(e, marks.free, old);
+        let e = vector::new_with_bits(store, cells, order, f.index);
+        return served::of_edited(e, store.free, old);
     }
     let shares = (f.operation == operations::CLONE) | (f.operation == operations::HAND_OVER);
     if shares {
-        return share(marks.counts, marks.free, v);
+        return share(store.counts, store.free, v);
     }
-    edit_path(marks, cells, order, f, v, old)
+    edit_path(store, cells, order, f, v, old)
 }
 
-pub fn release(marks: &mut Marks, cells: &[u32], order: &mut [u32], v: Version) -> Served
-    requires { Able (held_with marks.old cells.now order.old) (record_of v) }
-    ensures same_marks { SameMarks marks.old marks.new }
-    ensures free { result.free ≡ marks.new.free }
-    ensures acted { acted_of (held_with marks.new cells.now order.new) result ≡ released_act (held_with marks.old cells.now order.old) (record_of v) }
+pub fn release(store: &mut Store, cells: &[u32], order: &mut [u32], v: Version) -> Served
+    requires { Able (held store.old cells.now order.old) (record_of v) }
+    ensures same_slices { SameSlices store.old store.new }
+    ensures free { result.free ≡ store.new.free }
+    ensures acted { acted_of (held store.new cells.now order.new) result ≡ released_act (held store.old cells.now order.old) (record_of v) }
 {
-    vector::release(marks, cells, order, v);
-    served::answered(0, marks.free, Version::empty())
+    vector::release(store, cells, order, v);
+    served::answered(0, store.free, Version::empty())
 }

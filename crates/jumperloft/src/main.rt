@@ -34,10 +34,12 @@ fn read_piece(rt: &HostRuntime, piece: &mut [u8; PIECE]) -> usize
 fn answer_all(
     rt: &HostRuntime,
     store: &mut Store,
+    cells: &mut [u32; CELLS],
+    order: &mut [u32; PROGRAM_NODES],
     versions: &mut [Version; VERSIONS],
     walks: &mut Walks,
 ) -> io::Result<()>
-    requires { Runs (state_of store.old versions.old walks.old) }
+    requires { Runs (state_of store.old cells.old order.old versions.old walks.old) }
 {
     let mut begun = Begun::new();
     let mut piece = [0u8; PIECE];
@@ -47,7 +49,7 @@ fn answer_all(
         if n == 0 {
             break;
         }
-        let written = conversation::talk(store, versions, walks, &piece[..n], &mut begun, &mut out);
+        let written = conversation::talk(store, cells, order, versions, walks, &piece[..n], &mut begun, &mut out);
         rt.stdout().write_all(&out[..written])?;
     }
     if begun.len > 0 {
@@ -80,10 +82,8 @@ fn main(rt: HostRuntime) {
         kinds: &mut kinds,
         used: &mut used,
         counts: &mut counts,
-        cells: &mut cells,
-        order: &mut order,
         free: PROGRAM_NODES,
     };
     // Where the answers can't be written, nobody is left to tell.
-    let _ = answer_all(&rt, &mut store, &mut versions, &mut walks);
+    let _ = answer_all(&rt, &mut store, &mut cells, &mut order, &mut versions, &mut walks);
 }

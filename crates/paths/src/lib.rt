@@ -3,7 +3,7 @@
 
 ghost use Rattle.std.specs.Prelude.{◌≡◌, true, None, is_some, List, ℕ, suc};
 ghost use Rattle.store.specs.Store.{nodes_of};
-ghost use Rattle.store.specs.Lent.{nodes_with, held_with, SameMarks};
+ghost use Rattle.store.specs.Lent.{nodes_with, held, SameSlices};
 ghost use Rattle.paths.specs.Paths.{source, leaf_with, branch_with, assoc, grow};
 ghost use Rattle.paths.specs.Edits.{empty_leaf};
 ghost use Rattle.paths.specs.Ready.{made_of, source_of, node_number, HasCells, CanMake, CanShare, Way, WayBeyond, Ready};
@@ -11,7 +11,7 @@ ghost use Rattle.paths.specs.Ready.{made_of, source_of, node_number, HasCells, C
 use limits::NODE_CELLS;
 use records::NodeNo;
 use shape::vector_utils;
-use store::{Marks, NodeKind};
+use store::{NodeKind, Store};
 
 // A node that is copied: its cells, and how many it uses.
 #[derive(Clone, Copy)]
@@ -37,64 +37,76 @@ pub fn source_of(used: &[u8], cells: &[u32], node: Option<NodeNo>) -> Source
     }
 }
 
-// The same for those that hold the used numbers among marks.
-pub fn source_in(marks: &Marks, cells: &[u32], node: Option<NodeNo>) -> Source
-    requires { is_some node ≡ true → HasCells marks.now.used.now cells.now (node_number node) }
-    ensures { source_of result.cells result.used ≡ source (nodes_with marks.now cells.now) (is_some node) (node_number node) }
+// The same for those that hold the used numbers in a store.
+pub fn source_in(store: &Store, cells: &[u32], node: Option<NodeNo>) -> Source
+    requires { is_some node ≡ true → HasCells store.now.used.now cells.now (node_number node) }
+    ensures { source_of result.cells result.used ≡ source (nodes_with store.now cells.now) (is_some node) (node_number node) }
 {
-    let used = &*marks.used;
+    let used = &*store.used;
     source_of(used, cells, node)
 }
 
-pub fn new_empty_leaf(marks: &mut Marks, cells: &mut [u32], order: &[u32]) -> NodeNo
-    requires { CanMake (held_with marks.old cells.old order.now) 0 }
-    ensures same_marks { SameMarks marks.old marks.new }
-    ensures made { made_of (held_with marks.new cells.new order.now) result.0 ≡ empty_leaf (held_with marks.old cells.old order.now) }
+pub fn new_empty_leaf(store: &mut Store, cells: &mut [u32], order: &[u32]) -> NodeNo
+    requires { CanMake (held store.old cells.old order.now) 0 }
+    ensures same_slices { SameSlices store.old store.new }
+    ensures made { made_of (held store.new cells.new order.now) result.0 ≡ empty_leaf (held store.old cells.old order.now) }
 {
-    marks.make(cells, order, NodeKind::Leaf, 0, [0; NODE_CELLS])
+    store.make(cells, order, NodeKind::Leaf, 0, [0; NODE_CELLS])
 }
 
 pub fn leaf_with(
-    marks: &mut Marks,
+    store: &mut Store,
     cells: &mut [u32],
     order: &[u32],
     c: Source,
     b: usize,
     value: u32,
 ) -> NodeNo
-    requires { CanMake (held_with marks.old cells.old order.now) b }
-    ensures same_marks { SameMarks marks.old marks.new }
-    ensures made { made_of (held_with marks.new cells.new order.now) result.0
-        ≡ leaf_with (held_with marks.old cells.old order.now) (source_of c.cells c.used) b value }
+    requires { CanMake (held store.old cells.old order.now) b }
+    ensures same_slices { SameSlices store.old store.new }
+    ensures made { made_of (held store.new cells.new order.now) result.0
+        ≡ leaf_with (held store.old cells.old order.now) (source_of c.cells c.used) b value }
 {
     let mut contents = c.cells;
     contents[b] = value;
-    marks.make(cells, order, NodeKind::Leaf, c.used.max(b as u8 + 1), contents)
+    store.make(
+        cells,
+        order,
+        NodeKind::Leaf,
+        c.used.max(b as u8 + 1),
+        contents,
+    )
 }
 
 // The other children are shared: each gets one link more.
 pub fn branch_with(
-    marks: &mut Marks,
+    store: &mut Store,
     cells: &mut [u32],
     order: &[u32],
     c: Source,
     b: usize,
     child: NodeNo,
 ) -> NodeNo
-    requires { CanShare (held_with marks.old cells.old order.now) (source_of c.cells c.used) b }
-    ensures same_marks { SameMarks marks.old marks.new }
-    ensures made { made_of (held_with marks.new cells.new order.now) result.0
-        ≡ branch_with (source_of c.cells c.used) b (made_of (held_with marks.old cells.old order.now) child.0) }
+    requires { CanShare (held store.old cells.old order.now) (source_of c.cells c.used) b }
+    ensures same_slices { SameSlices store.old store.new }
+    ensures made { made_of (held store.new cells.new order.now) result.0
+        ≡ branch_with (source_of c.cells c.used) b (made_of (held store.old cells.old order.now) child.0) }
 {
     let mut contents = c.cells;
-    store::raise_others(marks.counts, &c.cells[..c.used as usize], b);
+    store::raise_others(store.counts, &c.cells[..c.used as usize], b);
     contents[b] = child.0;
-    marks.make(cells, order, NodeKind::Branch, c.used.max(b as u8 + 1), contents)
+    store.make(
+        cells,
+        order,
+        NodeKind::Branch,
+        c.used.max(b as u8 + 1),
+        contents,
+    )
 }
 
 // The way to an index below a node of that height, copied with a value there. A node that is not there is made.
 pub fn assoc(
-    marks: &mut Marks,
+    store: &mut Store,
     cells: &mut [u32],
     order: &[u32],
     bits: u32,
@@ -103,25 +115,25 @@ pub fn assoc(
     index: u32,
     value: u32,
 ) -> NodeNo
-    requires { Ready (held_with marks.old cells.old order.now) bits height
-        (Way (held_with marks.old cells.old order.now) bits height (is_some node) (node_number node) index) }
-    ensures same_marks { SameMarks marks.old marks.new }
-    ensures made { made_of (held_with marks.new cells.new order.now) result.0
-        ≡ assoc (held_with marks.old cells.old order.now) bits height (is_some node) (node_number node) index value }
+    requires { Ready (held store.old cells.old order.now) bits height
+        (Way (held store.old cells.old order.now) bits height (is_some node) (node_number node) index) }
+    ensures same_slices { SameSlices store.old store.new }
+    ensures made { made_of (held store.new cells.new order.now) result.0
+        ≡ assoc (held store.old cells.old order.now) bits height (is_some node) (node_number node) index value }
 {
-    let c = source_in(marks, cells, node);
+    let c = source_in(store, cells, node);
     let b = vector_utils::bucket(bits, index, height) as usize;
     if height == 0 {
-        return leaf_with(marks, cells, order, c, b, value);
+        return leaf_with(store, cells, order, c, b, value);
     }
     let child = (b < c.used as usize).then_some(NodeNo(c.cells[b]));
-    let copy = assoc(marks, cells, order, bits, height - 1, child, index, value);
-    branch_with(marks, cells, order, c, b, copy)
+    let copy = assoc(store, cells, order, bits, height - 1, child, index, value);
+    branch_with(store, cells, order, c, b, copy)
 }
 
 // A new root over a full one of that height, with the way to the first index beyond it.
 pub fn grow(
-    marks: &mut Marks,
+    store: &mut Store,
     cells: &mut [u32],
     order: &[u32],
     bits: u32,
@@ -130,18 +142,18 @@ pub fn grow(
     index: u32,
     value: u32,
 ) -> NodeNo
-    requires { Ready (held_with marks.old cells.old order.now) bits (suc height)
-        (WayBeyond (held_with marks.old cells.old order.now) bits height root.0 index) }
-    ensures same_marks { SameMarks marks.old marks.new }
-    ensures made { made_of (held_with marks.new cells.new order.now) result.0
-        ≡ grow (held_with marks.old cells.old order.now) bits height root.0 index value }
+    requires { Ready (held store.old cells.old order.now) bits (suc height)
+        (WayBeyond (held store.old cells.old order.now) bits height root.0 index) }
+    ensures same_slices { SameSlices store.old store.new }
+    ensures made { made_of (held store.new cells.new order.now) result.0
+        ≡ grow (held store.old cells.old order.now) bits height root.0 index value }
 {
-    let copy = assoc(marks, cells, order, bits, height, None, index, value);
+    let copy = assoc(store, cells, order, bits, height, None, index, value);
     let mut over = [0; NODE_CELLS];
     over[0] = root.0;
     let source = Source {
         cells: over,
         used: 1,
     };
-    branch_with(marks, cells, order, source, 1, copy)
+    branch_with(store, cells, order, source, 1, copy)
 }

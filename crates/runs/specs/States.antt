@@ -1,5 +1,5 @@
 -- The parts of the code's state as the run that they hold.
-use Rattle.std.specs.Prelude.{List}
+use Rattle.std.specs.Prelude.{List, ℕ}
 use Rattle.records.specs.Records.{records_of}
 use Rattle.records.specs.declared.Version.{Version}
 use Rattle.store.specs.Lent.{held}
@@ -9,5 +9,5 @@ use Rattle.walk.specs.declared.Walks.{Walks}
 use Rattle.frames.specs.Run.{Run}
 use Rattle.runs.specs.Runs.{run_of}
 
-abbrev pub state_of : Store → List Version → Walks → Run
-state_of s vs ws = run_of (held s) (records_of vs) (walks_of ws)
+abbrev pub state_of : Store → (cells order : List ℕ) → List Version → Walks → Run
+state_of s cells order vs ws = run_of (held s cells order) (records_of vs) (walks_of ws)

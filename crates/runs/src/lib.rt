@@ -42,6 +42,7 @@ fn places_of(f: Frame) -> Places
 // Answers the frames from the kth on that get from the slot, or step the walk, of the frame before; how far, it says. The version is what stands in that slot.
 fn repeat(
     store: &Store,
+    cells: &[u32],
     walks: &mut Walks,
     f: Frame,
     v: Version,
@@ -51,11 +52,10 @@ fn repeat(
     count: usize,
 ) -> usize
     requires { Repeatable (walks_of walks.old) (frame_of f) (record_of v) requests.now room.old k count }
-    ensures { Repeats store.now.cells.now store.now.used.now (walks_of walks.old)
+    ensures { Repeats cells.now store.now.used.now (walks_of walks.old)
         (walks_of walks.new) (frame_of f) (record_of v)
         requests.now room.old room.new k count result }
 {
-    let cells = &*store.cells;
     let there = turns::is_slot(f.party as u32, f.slot);
     if (f.operation == operations::GET) & there & (v.live == 1) {
         return repeats::gets(cells, f.party, f.slot, v, requests, room, k, count);
@@ -86,47 +86,51 @@ fn repeat(
 // What stands at the places is read and written, whether the frame's slots are there or not.
 fn serve(
     store: &mut Store,
+    cells: &mut [u32],
+    order: &mut [u32],
     versions: &mut [Version; VERSIONS],
     walks: &mut Walks,
     f: Frame,
     at: Places,
 ) -> Answer
-    requires runs { Runs (state_of store.old versions.old walks.old) }
+    requires runs { Runs (state_of store.old cells.old order.old versions.old walks.old) }
     requires placed { Placed (frame_of f) at.source at.target at.changed }
     ensures same_slices { SameSlices store.old store.new }
-    ensures served { (state_of store.new versions.new walks.new, answer_of result) ≡ serve (state_of store.old versions.old walks.old) (frame_of f) }
+    ensures served { (state_of store.new cells.new order.new versions.new walks.new, answer_of result) ≡ serve (state_of store.old cells.old order.old versions.old walks.old) (frame_of f) }
 {
     let source_there = turns::is_slot(refusals::giver(f), f.slot);
     let target_there = turns::is_slot(refusals::taker(f), f.destination);
     let v = turns::version_or_empty(source_there, versions[at.source]);
     let w = turns::version_or_empty(target_there, versions[at.target]);
     let old = versions[at.changed];
-    let served = turns::serve(store, walks, f, v, w, old);
+    let served = turns::serve(store, cells, order, walks, f, v, w, old);
     versions[at.changed] = served.version;
     served.answer
 }
 
 pub fn run(
     store: &mut Store,
+    cells: &mut [u32],
+    order: &mut [u32],
     versions: &mut [Version; VERSIONS],
     walks: &mut Walks,
     requests: &[u8],
     room: &mut [u8],
     count: usize,
 )
-    requires { CanRun (state_of store.old versions.old walks.old) requests.now room.old count }
+    requires { CanRun (state_of store.old cells.old order.old versions.old walks.old) requests.now room.old count }
     ensures same_slices { SameSlices store.old store.new }
-    ensures ran { progress (state_of store.new versions.new walks.new) room.new
-        ≡ run_from requests.now count (progress (state_of store.old versions.old walks.old) room.old) 0 }
+    ensures ran { progress (state_of store.new cells.new order.new versions.new walks.new) room.new
+        ≡ run_from requests.now count (progress (state_of store.old cells.old order.old versions.old walks.old) room.old) 0 }
 {
     let mut k = 0;
     // No `for`: a turn answers as many frames as are alike.
     while k < count {
         let f = requests::frame_at(requests, k);
         let at = places_of(f);
-        let answer = serve(store, versions, walks, f, at);
+        let answer = serve(store, cells, order, versions, walks, f, at);
         requests::put_answer(room, k, answer);
         let there = versions[at.source];
-        k = repeat(store, walks, f, there, requests, room, k + 1, count);
+        k = repeat(store, cells, walks, f, there, requests, room, k + 1, count);
     }
 }

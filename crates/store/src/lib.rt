@@ -7,7 +7,7 @@ ghost use Rattle.cells.specs.Cells.{cells_of};
 ghost use Rattle.store.specs.Store.{raise, raises};
 ghost use Rattle.store.specs.Ready.{Sized, FreeOnTop, HasPlace, Room, AllBelow};
 ghost use Rattle.store.specs.Answers.{Written, Makes, others};
-ghost use Rattle.store.specs.Lent.{nodes_with, held_with, SameMarks, kind_byte};
+ghost use Rattle.store.specs.Lent.{nodes_with, held, SameSlices, kind_byte};
 
 use limits::{BRANCH, LEAF, NODE_CELLS};
 use records::NodeNo;
@@ -27,21 +27,13 @@ impl NodeKind {
     }
 }
 
-// What making nodes and giving them back both write: a node's kind, its used number and its count, and how many are free. The cells and the free order are lent beside it: making reads the order alone, giving back the cells alone.
+// The lent slices, one entry a node in each, and how many nodes are free. The cells, 32 a node, and the free order, whose first `free` are the numbers of free nodes, are lent beside it: making nodes only reads the order, giving them back only the cells.
 #[derive(Drop)]
-pub struct Marks<'a> {
+pub struct Store<'a> {
     pub kinds: &'a mut [u8],
     pub used: &'a mut [u8],
     pub counts: &'a mut [u32],
     pub free: usize,
-}
-
-// The lent slices, one entry a node in each, but 32 cells; the first `free` of the order are the numbers of free nodes.
-#[derive(Drop)]
-pub struct Store<'a> {
-    pub marks: Marks<'a>,
-    pub cells: &'a mut [u32],
-    pub order: &'a mut [u32],
 }
 
 // The free node that is taken next.
@@ -60,7 +52,7 @@ pub fn cells_of(cells: &[u32], n: NodeNo) -> [u32; NODE_CELLS]
     cells::cells_of(cells, n.0 as usize)
 }
 
-impl Marks<'_> {
+impl Store<'_> {
     // Writes a node whole, with a count of 1. Its kind may be any byte, as in what is lent.
     #[tactic(auto, unfolding(crate::specs::Store::write_node))]
     pub fn write(
@@ -72,7 +64,7 @@ impl Marks<'_> {
         contents: [u32; NODE_CELLS],
     )
         requires { HasPlace (nodes_with self.old cells.old) self.old.counts.now n.0 }
-        ensures same_marks { SameMarks self.old self.new }
+        ensures same_slices { SameSlices self.old self.new }
         ensures written { Written (nodes_with self.old cells.old) self.old.counts.now n.0 kind used contents
             (nodes_with self.new cells.new) self.new.counts.now }
         ensures free { self.new.free ≡ self.old.free }
@@ -94,10 +86,10 @@ impl Marks<'_> {
         used: u8,
         contents: [u32; NODE_CELLS],
     ) -> NodeNo
-        requires sized { Sized (held_with self.old cells.old order.now) }
-        requires free_on_top { FreeOnTop (held_with self.old cells.old order.now) }
-        ensures same_marks { SameMarks self.old self.new }
-        ensures makes { Makes (held_with self.old cells.old order.now) (kind_byte kind) used contents (held_with self.new cells.new order.now) result.0 }
+        requires sized { Sized (held self.old cells.old order.now) }
+        requires free_on_top { FreeOnTop (held self.old cells.old order.now) }
+        ensures same_slices { SameSlices self.old self.new }
+        ensures makes { Makes (held self.old cells.old order.now) (kind_byte kind) used contents (held self.new cells.new order.now) result.0 }
     {
         let node = top(order, self.free);
         self.write(cells, node, kind.byte(), used, contents);

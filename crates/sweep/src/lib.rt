@@ -4,13 +4,13 @@
 ghost use Rattle.std.specs.Prelude.{◌≡◌, ◌+◌, ◌≤◌, ◌<◌, length};
 ghost use Rattle.meaning.specs.Lent.{Nodes};
 ghost use Rattle.store.specs.Ready.{AllBelow};
-ghost use Rattle.store.specs.Lent.{held_with, SameMarks};
+ghost use Rattle.store.specs.Lent.{held, SameSlices};
 ghost use Rattle.sweep.specs.Sweep.{lower, lowers, scan, release};
 ghost use Rattle.sweep.specs.Ready.{store_on, live, Releasable};
 
 use limits::{BRANCH, FREE};
 use records::NodeNo;
-use store::Marks;
+use store::Store;
 
 // A node loses a link, and goes on the free order with its last.
 pub fn lower_one(counts: &mut [u32], order: &mut [u32], free: &mut usize, n: NodeNo)
@@ -42,35 +42,40 @@ pub fn lower_all(counts: &mut [u32], order: &mut [u32], free: &mut usize, nodes:
 }
 
 // A node on the free order becomes free, and its children lose a link each.
-pub fn scan_one(marks: &mut Marks, cells: &[u32], order: &mut [u32], n: NodeNo)
-    requires { Releasable (held_with marks.old cells.now order.old) n.0 }
-    ensures same_marks { SameMarks marks.old marks.new }
-    ensures scanned { held_with marks.new cells.now order.new ≡ scan (held_with marks.old cells.now order.old) n.0 }
+pub fn scan_one(store: &mut Store, cells: &[u32], order: &mut [u32], n: NodeNo)
+    requires { Releasable (held store.old cells.now order.old) n.0 }
+    ensures same_slices { SameSlices store.old store.new }
+    ensures scanned { held store.new cells.now order.new ≡ scan (held store.old cells.now order.old) n.0 }
 {
     let i = n.0 as usize;
     // A byte as it was lent, which may be no kind, and FREE is no kind that a node is made as: so no `NodeKind`.
-    let kind = marks.kinds[i];
-    let len = marks.used[i];
-    marks.kinds[i] = FREE;
-    marks.used[i] = 0;
+    let kind = store.kinds[i];
+    let len = store.used[i];
+    store.kinds[i] = FREE;
+    store.used[i] = 0;
     if kind == BRANCH {
         let children = store::cells_of(cells, n);
-        lower_all(marks.counts, order, &mut marks.free, &children[..len as usize]);
+        lower_all(
+            store.counts,
+            order,
+            &mut store.free,
+            &children[..len as usize],
+        );
     }
 }
 
 // A link to a node is given up. What that frees is scanned in the order in which it was freed.
-pub fn release(marks: &mut Marks, cells: &[u32], order: &mut [u32], root: NodeNo)
-    requires { Releasable (held_with marks.old cells.now order.old) root.0 }
-    ensures same_marks { SameMarks marks.old marks.new }
-    ensures released { held_with marks.new cells.now order.new ≡ release (held_with marks.old cells.now order.old) root.0 }
+pub fn release(store: &mut Store, cells: &[u32], order: &mut [u32], root: NodeNo)
+    requires { Releasable (held store.old cells.now order.old) root.0 }
+    ensures same_slices { SameSlices store.old store.new }
+    ensures released { held store.new cells.now order.new ≡ release (held store.old cells.now order.old) root.0 }
 {
-    let mut at = marks.free;
-    lower_one(marks.counts, order, &mut marks.free, root);
+    let mut at = store.free;
+    lower_one(store.counts, order, &mut store.free, root);
     // No `for`: the free order grows while it is scanned.
-    while at < marks.free {
+    while at < store.free {
         let n = NodeNo(order[at]);
-        scan_one(marks, cells, order, n);
+        scan_one(store, cells, order, n);
         at += 1;
     }
 }

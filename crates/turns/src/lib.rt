@@ -79,17 +79,19 @@ pub fn is_open(walks: &Walks, party: u32, walk: u8) -> bool
 
 pub fn serve(
     store: &mut Store,
+    cells: &mut [u32],
+    order: &mut [u32],
     walks: &mut Walks,
     f: Frame,
     v: Version,
     w: Version,
     old: Version,
 ) -> Served
-    requires { Turnable (held store.old) (walks_of walks.old) (frame_of f) (record_of v) (record_of w) }
+    requires { Turnable (held store.old cells.old order.old) (walks_of walks.old) (frame_of f) (record_of v) (record_of w) }
     ensures same_slices { SameSlices store.old store.new }
     ensures free { result.free ≡ store.new.free }
-    ensures turned { with_walks (acted_of (held store.new) result) (walks_of walks.new)
-        ≡ turn (held store.old) (walks_of walks.old) (frame_of f) (record_of v) (record_of w) (record_of old) }
+    ensures turned { with_walks (acted_of (held store.new cells.new order.new) result) (walks_of walks.new)
+        ≡ turn (held store.old cells.old order.old) (walks_of walks.old) (frame_of f) (record_of v) (record_of w) (record_of old) }
 {
     let standing = Standing {
         source_live: v.live == 1,
@@ -101,5 +103,5 @@ pub fn serve(
     if number != DONE {
         return served::refused(number, store.free, old);
     }
-    calls::act(store, walks, f, v, w, old)
+    calls::act(store, cells, order, walks, f, v, w, old)
 }

@@ -19,7 +19,7 @@ pub read-requires : goal.read-requires
 read-requires c = record { few = c.requires.few; legal = λ e. (c.requires.source e).legal; other = c.requires.other }
 
 pub returns-clause-free : goal.returns-clause-free
-returns-clause-free c = (read-stores (held c.args.store.now) (frame_of c.args.f) c.args.v c.args.w c.args.old c.if-edits.false _ c.if-f-eq-RELEASE.false c.read.ensures).0
+returns-clause-free c = (read-stores (held c.args.store.now c.args.cells.now c.args.order.now) (frame_of c.args.f) c.args.v c.args.w c.args.old c.if-edits.false _ c.if-f-eq-RELEASE.false c.read.ensures).0
 
 pub returns-clause-acted : goal.returns-clause-acted
-returns-clause-acted c = (read-stores (held c.args.store.now) (frame_of c.args.f) c.args.v c.args.w c.args.old c.if-edits.false _ c.if-f-eq-RELEASE.false c.read.ensures).1
+returns-clause-acted c = (read-stores (held c.args.store.now c.args.cells.now c.args.order.now) (frame_of c.args.f) c.args.v c.args.w c.args.old c.if-edits.false _ c.if-f-eq-RELEASE.false c.read.ensures).1

@@ -1,12 +1,12 @@
 use Rattle.std.proofs.Common.{arith}
-use Rattle.store.specs.Lent.{held_with}
+use Rattle.store.specs.Lent.{held}
 use Rattle.paths.specs.Ready.{source_of}
 use Rattle.paths.proofs.Steps.{share-first, recounted-can, branch-cut}
 use Rattle.cuts.proofs.branch_cut.Goals as goal
 
 pub raise_all-requires : goal.raise_all-requires
 raise_all-requires c =
-    let both = share-first (held_with c.args.marks.now c.args.cells.now c.args.order.now) (source_of c.args.c.cells c.args.c.used) c.args.b _ (omega arith) c.requires c.requires.fork.next in
+    let both = share-first (held c.args.store.now c.args.cells.now c.args.order.now) (source_of c.args.c.cells c.args.c.used) c.args.b _ (omega arith) c.requires c.requires.fork.next in
     record { all_below = both.0; room = both.1 }
 
 pub make-requires-clause-free_on_top : goal.make-requires-clause-free_on_top

@@ -6,7 +6,7 @@ use Rattle.runs.proofs.run.Given as goal
 
 abbrev pub invariant-loop-k : goal.invariant-loop-k
 invariant-loop-k l = record {
-  going : Going l.requests l.count (progress (state_of l.initial.store l.initial.versions l.initial.walks) l.initial.room) (progress (state_of l.store l.versions l.walks) l.room) l.k;
+  going : Going l.requests l.count (progress (state_of l.initial.store l.initial.cells l.initial.order l.initial.versions l.initial.walks) l.initial.room) (progress (state_of l.store l.cells l.order l.versions l.walks) l.room) l.k;
   same_slices : SameSlices l.initial.store l.store;
 }
 

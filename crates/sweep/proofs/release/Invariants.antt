@@ -1,16 +1,16 @@
 use Rattle.std.proofs.Common.{◌≡◌, ◌-◌, length}
-use Rattle.store.specs.Lent.{held_with, SameMarks}
+use Rattle.store.specs.Lent.{held, SameSlices}
 use Rattle.sweep.specs.Sweep.{sweep}
 use Rattle.sweep.proofs.Sweeping.{Sweeping}
 use Rattle.sweep.proofs.release.Given as goal
 
 abbrev pub invariant-loop-at : goal.invariant-loop-at
 invariant-loop-at l = record {
-  same_marks : SameMarks l.initial.marks l.marks;
+  same_slices : SameSlices l.initial.store l.store;
   order : length l.order ≡ length l.initial.order;
-  sweeping : Sweeping l.at (held_with l.marks l.cells l.order);
-  rest : sweep (length l.initial.order - l.at) (held_with l.marks l.cells l.order) l.at
-      ≡ sweep (length l.initial.order - l.initial.at) (held_with l.initial.marks l.cells l.initial.order) l.initial.at;
+  sweeping : Sweeping l.at (held l.store l.cells l.order);
+  rest : sweep (length l.initial.order - l.at) (held l.store l.cells l.order) l.at
+      ≡ sweep (length l.initial.order - l.initial.at) (held l.initial.store l.cells l.initial.order) l.initial.at;
 }
 
 abbrev pub decreases-loop-at : goal.decreases-loop-at

@@ -7,7 +7,7 @@ pub open-requires : goal.open-requires
 open-requires c = record { link = c.requires.opening c.if-f-eq-OPEN_WALK.true; place = c.walk_place-n.ensures.1 }
 
 pub returns-then-f-eq-OPEN_WALK-clause-acted : goal.returns-then-f-eq-OPEN_WALK-clause-acted
-returns-then-f-eq-OPEN_WALK-clause-acted c = open-acts _ _ (frame_of c.args.f) (record_of c.args.v) _ _ _ _ _ c.walk_place-n.ensures.0 c.if-f-eq-OPEN_WALK.true c.«open».ensures.opens
+returns-then-f-eq-OPEN_WALK-clause-acted c = open-acts _ _ (frame_of c.args.f) (record_of c.args.v) _ _ _ _ _ c.walk_place-n.ensures.0 c.if-f-eq-OPEN_WALK.true (c.«open».ensures.opens _ _)
 
 pub close-requires : goal.close-requires
 close-requires c = record { release = rw c.walk_place-n-2.ensures.0 (c.requires.closing c.if-f-eq-CLOSE_WALK.true); place = c.walk_place-n-2.ensures.1 }
