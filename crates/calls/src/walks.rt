@@ -32,7 +32,7 @@ fn open(store: &mut Store, walks: &mut Walks, n: usize, v: Version, old: Version
     ensures opens { Opens (held store.old) (walks_of walks.old) n (record_of v) old (held store.new) (walks_of walks.new) result }
 {
     store::raise(store.counts, NodeNo(v.root));
-    walks.open(n, v);
+    walk::open(&mut walks.numbers, n, v);
     served::answered(0, store.free, old)
 }
 
@@ -43,7 +43,7 @@ fn close(store: &mut Store, walks: &mut Walks, n: usize, old: Version) -> Served
     ensures free { result.free ≡ store.new.free }
     ensures closes { Closes (held store.old) (walks_of walks.old) n old (held store.new) (walks_of walks.new) result }
 {
-    let v = walks.version(n);
+    let v = walk::version(&walks.numbers, n);
     sweep::release(store, NodeNo(v.root));
     walks.close(n);
     served::answered(0, store.free, old)
