@@ -128,7 +128,7 @@ stretch-is us b ns nodes is n s a l most place w e stay left begun p q f h =
     let some : 0 < taken_at ns n b = rw e at (begun (omega arith)) in
     rw e (stays-in us b ns nodes is n a l most place w on left some p q (rw e at f))
 
-pub passes_on : (b : Bool) (ns ns' nodes : List ℕ) (is is' : List ℤ) (n s m : ℕ) → s ≡ bit b → ns' ≡ set ns (walk_numbers * n + 4 + s) (get_or ns (walk_numbers * n + 4 + s) 0 + m)
-    → is' ≡ passed_at b is (walk_levels * (2 * n + s)) m → slices ns' nodes is' ≡ passed_on b (slices ns nodes is) n m
+pub passes_on : (b : Bool) (ns : List ℕ) (is is' : List ℤ) (n s m : ℕ) → s ≡ bit b → is' ≡ passed_at b is (walk_levels * (2 * n + s)) m → (nodes : List ℕ)
+    → slices (set ns (walk_numbers * n + 4 + s) (get_or ns (walk_numbers * n + 4 + s) 0 + m)) nodes is' ≡ passed_on b (slices ns nodes is) n m
 unfolding passed_on
-passes_on b ns ns' nodes is is' n s m e c q = rw (c, q, number-place n s b e, e)
+passes_on b ns is is' n s m e p nodes = rw (number-place n s b e, p, e)
