@@ -32,7 +32,7 @@ fn open(store: &mut Store, walks: &mut Walks, n: usize, v: Version, old: Version
     ensures opens { (cells order : List ℕ) → Opens (held store.old cells order) (walks_of walks.old) n (record_of v) old (held store.new cells order) (walks_of walks.new) result }
 {
     store::raise(store.counts, NodeNo(v.root));
-    walks.open(n, v);
+    walk::open(&mut walks.numbers, n, v);
     served::answered(0, store.free, old)
 }
 
@@ -50,7 +50,7 @@ fn close(
     ensures free { result.free ≡ store.new.free }
     ensures closes { Closes (held store.old cells.now order.old) (walks_of walks.old) n old (held store.new cells.now order.new) (walks_of walks.new) result }
 {
-    let v = walks.version(n);
+    let v = walk::version(&walks.numbers, n);
     sweep::release(store, cells, order, NodeNo(v.root));
     walks.close(n);
     served::answered(0, store.free, old)

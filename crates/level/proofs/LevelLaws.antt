@@ -11,8 +11,7 @@ use mir.Val.{to_z, of_z}
 use Rattle.meaning.specs.Limits.{node_cells}
 use Rattle.index.proofs.IndexLaws.{read}
 use Rattle.index.specs.Index.{first, advanced, finished, place}
-use Rattle.level.specs.declared.Levels.{Levels}
-use Rattle.level.specs.Level.{levels, current_at, pushed, dug, index_after, stepped_at, ended_at}
+use Rattle.level.specs.Level.{levels, current_at, pushed, index_after, stepped_at, ended_at}
 
 pub reads : (z : ℤ) → mag z < 2 ^ 31 → to_z w32 (of_z w32 z) ≡ z
 reads z h = read z (record { sfits = h })

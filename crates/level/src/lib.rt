@@ -3,7 +3,7 @@
 
 ghost use Rattle.std.specs.Prelude.{◌≡◌, Bool, true, false, ◌+◌, ◌<◌, get_or};
 ghost use Rattle.meaning.specs.Limits.{places};
-ghost use Rattle.level.specs.Level.{current_at, pushed, popped, dug, stepped_at, ended_at, place_at, StaysAt, passed_at};
+ghost use Rattle.level.specs.Level.{levels, current_at, pushed, popped, dug, stepped_at, ended_at, place_at, StaysAt, passed_at};
 ghost use Rattle.index.specs.Index.{Within};
 
 use limits::PLACES;
@@ -61,46 +61,57 @@ impl Levels {
         let node = self.current(cells, k + 1);
         self.push(used, back, k, node);
     }
+}
 
-    // Moves level k by one, and answers whether it has finished.
-    pub fn step(&mut self, used: &[u8], back: bool, k: usize) -> bool
-        requires { k < places }
-        ensures { (result ≡ ended_at used.now back self.old k)
-            × (self.new ≡ stepped_at back self.old k) }
-    {
-        let i = self.indices[k];
-        let next = index::advance(back, i);
-        self.indices[k] = next;
-        index::finished(back, used_of(used, NodeNo(self.nodes[k])), next)
-    }
+// Moves level k by one, and answers whether it has finished.
+pub fn step(
+    used: &[u8],
+    nodes: &[u32; PLACES],
+    indices: &mut [i32; PLACES],
+    back: bool,
+    k: usize,
+) -> bool
+    requires { k < places }
+    ensures { (result ≡ ended_at used.now back (levels nodes.now indices.old) k)
+        × (levels nodes.now indices.new ≡ stepped_at back (levels nodes.now indices.old) k) }
+{
+    let i = indices[k];
+    let next = index::advance(back, i);
+    indices[k] = next;
+    index::finished(back, used_of(used, NodeNo(nodes[k])), next)
+}
 
-    // ---- so many steps at once
+// ---- so many steps at once
 
-    // The cell of its node that level k is at.
-    pub fn place(&self, k: usize) -> u32
-        requires { k < places }
-        ensures { result ≡ place_at self.now.indices k }
-    {
-        let i = self.indices[k];
-        index::place(i)
-    }
+// The cell of its node that level k is at.
+pub fn place(indices: &[i32; PLACES], k: usize) -> u32
+    requires { k < places }
+    ensures { result ≡ place_at indices.now k }
+{
+    let i = indices[k];
+    index::place(i)
+}
 
-    // How many steps of level k stay in its node.
-    pub fn staying(&self, used: &[u8], back: bool, k: usize) -> u32
-        requires { k < places }
-        ensures { 0 < result → StaysAt used.now back self.now k result }
-    {
-        let i = self.indices[k];
-        index::staying(back, used_of(used, NodeNo(self.nodes[k])), i)
-    }
+// How many steps of level k stay in its node.
+pub fn staying(
+    used: &[u8],
+    nodes: &[u32; PLACES],
+    indices: &[i32; PLACES],
+    back: bool,
+    k: usize,
+) -> u32
+    requires { k < places }
+    ensures { 0 < result → StaysAt used.now back (levels nodes.now indices.now) k result }
+{
+    let i = indices[k];
+    index::staying(back, used_of(used, NodeNo(nodes[k])), i)
+}
 
-    // Moves level k by m steps that stay in its node.
-    pub fn pass(&mut self, back: bool, k: usize, m: u32)
-        requires place { k < places }
-        requires stays { Within back (place_at self.old.indices k) m }
-        ensures nodes { self.new.nodes ≡ self.old.nodes }
-        ensures indices { self.new.indices ≡ passed_at back self.old.indices k m }
-    {
-        self.indices[k] = index::at(index::along(back, self.place(k), m));
-    }
+// Moves level k by m steps that stay in its node.
+pub fn pass(indices: &mut [i32; PLACES], back: bool, k: usize, m: u32)
+    requires place { k < places }
+    requires stays { Within back (place_at indices.old k) m }
+    ensures { indices.new ≡ passed_at back indices.old k m }
+{
+    indices[k] = index::at(index::along(back, place(indices, k), m));
 }

@@ -16,7 +16,7 @@ fn step_up(levels: &mut Levels, used: &[u8], back: bool, k: usize, m: usize) -> 
         ≡ advanced_by cells used.now back m levels.old k) }
 {
     for n in 0..m {
-        if !levels.step(used, back, k + n) {
+        if !level::step(used, &levels.nodes, &mut levels.indices, back, k + n) {
             return n;
         }
     }
@@ -81,7 +81,7 @@ fn advance_near(levels: &mut Levels, cells: &[u32], used: &[u8], back: bool, k: 
     requires { HasStack v.bits v.length k }
     ensures { levels.new ≡ (advanced_by cells.now used.now back (suc (height v.bits v.length)) levels.old k).levels }
 {
-    if levels.step(used, back, k) {
+    if level::step(used, &levels.nodes, &mut levels.indices, back, k) {
         let h = shape::height(v.bits, v.length) as usize;
         if advance(levels, cells, used, back, k + 1, h) {
             levels.dig(cells, used, back, k);

@@ -1,13 +1,14 @@
 // Steps of a walk that stay in one leaf: answered by its cells in a row, with the walk moved once.
 ghost use Rattle.std.specs.Prelude.{◌≡◌, Bool, ◌+◌, ◌-◌, ◌*◌, ◌≤◌};
 ghost use Rattle.index.specs.Index.{Within};
-ghost use Rattle.walk.specs.Walk.{walks_of, Walkable};
+ghost use Rattle.walk.specs.Walk.{slices, Walkable};
 ghost use Rattle.requests.specs.Requests.{frame_of};
 ghost use Rattle.repeats.specs.InARow.{Roomy, is_step, walked, Steps, StepsInLeaf};
 
+use limits::{ALL_NUMBERS, PLACES};
 use records::NodeNo;
 use requests::{Answer, Frame};
-use walk::{Stretch, Walks};
+use walk::Stretch;
 
 // From these bits on a leaf holds enough that to look for a stretch pays.
 const WORTH: u32 = 3;
@@ -60,7 +61,9 @@ fn answer_cells(
 pub fn steps_in_leaf(
     cells: &[u32],
     used: &[u8],
-    walks: &mut Walks,
+    numbers: &mut [u32; ALL_NUMBERS],
+    nodes: &[u32; PLACES],
+    indices: &mut [i32; PLACES],
     party: u8,
     operation: u8,
     walk: u8,
@@ -71,22 +74,22 @@ pub fn steps_in_leaf(
     k: usize,
     count: usize,
 ) -> usize
-    requires walk { Walkable walks.old.numbers n }
+    requires walk { Walkable numbers.old n }
     requires room { Roomy requests.now room.old k count }
     ensures { Steps cells.now used.now party operation walk back n
-        (walked (walks_of walks.old) room.old)
-        (walked (walks_of walks.new) room.new)
+        (walked (slices numbers.old nodes.now indices.old) room.old)
+        (walked (slices numbers.new nodes.now indices.new) room.new)
         requests.now k count result }
 {
-    if walks.version(n).bits < WORTH {
+    if walk::version(numbers, n).bits < WORTH {
         return k;
     }
-    let Some(s) = walks.stretch_in_leaf(used, n, back) else {
+    let Some(s) = walk::stretch_in_leaf(used, numbers, nodes, indices, n, back) else {
         return k;
     };
     let end = answer_cells(
         cells, party, operation, walk, back, s, requests, room, k, count,
     );
-    walks.pass_on(n, back, (end - k) as u32);
+    walk::pass_on(numbers, indices, n, back, (end - k) as u32);
     end
 }

@@ -128,7 +128,9 @@ pub fn steps(
         j = leaf::steps_in_leaf(
             cells,
             used,
-            walks,
+            &mut walks.numbers,
+            &walks.levels.nodes,
+            &mut walks.levels.indices,
             party,
             operation,
             walk,

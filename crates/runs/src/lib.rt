@@ -60,7 +60,7 @@ fn repeat(
     if (f.operation == operations::GET) & there & (v.live == 1) {
         return repeats::gets(cells, f.party, f.slot, v, requests, room, k, count);
     }
-    let open = turns::is_open(walks, f.party as u32, f.slot);
+    let open = turns::is_open(&walks.numbers, f.party as u32, f.slot);
     if ((f.operation == operations::NEXT) | (f.operation == operations::NEXT_BACK)) & open {
         let n = turns::walk_place(f.party as u32, f.slot);
         let used = &*store.used;

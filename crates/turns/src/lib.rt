@@ -13,11 +13,10 @@ ghost use Rattle.calls.specs.Calls.{with_walks};
 ghost use Rattle.frames.specs.Run.{walk_place};
 ghost use Rattle.turns.specs.Turns.{place_of, changed_in, is_open_at, Turnable, turn};
 
-use limits::numbers;
 use limits::numbers::DONE;
 use limits::operations::Operation;
 use limits::words::PARTIES;
-use limits::{PARTY_SLOTS, PARTY_WALKS, WALK_NUMBERS};
+use limits::{ALL_NUMBERS, PARTY_SLOTS, PARTY_WALKS, WALK_NUMBERS, numbers};
 use records::Version;
 use refusals::Standing;
 use requests::Frame;
@@ -70,11 +69,11 @@ pub fn walk_place(party: u32, walk: u8) -> usize
 }
 
 // A walk that is not there is closed.
-pub fn is_open(walks: &Walks, party: u32, walk: u8) -> bool
-    ensures { result ≡ is_open_at walks.now.numbers party walk }
+pub fn is_open(numbers: &[u32; ALL_NUMBERS], party: u32, walk: u8) -> bool
+    ensures { result ≡ is_open_at numbers.now party walk }
 {
     let there = (party < PARTIES) & (walk < PARTY_WALKS);
-    there && walks.numbers[WALK_NUMBERS * walk_place(party, walk)] == 1
+    there && numbers[WALK_NUMBERS * walk_place(party, walk)] == 1
 }
 
 pub fn serve(
@@ -96,8 +95,8 @@ pub fn serve(
     let standing = Standing {
         source_live: v.live == 1,
         target_live: w.live == 1,
-        walk_open: is_open(walks, refusals::giver(f), f.slot),
-        opened_open: is_open(walks, refusals::taker(f), f.destination),
+        walk_open: is_open(&walks.numbers, refusals::giver(f), f.slot),
+        opened_open: is_open(&walks.numbers, refusals::taker(f), f.destination),
     };
     let number = numbers::of_outcome(refusals::check(f, standing));
     if number != DONE {

@@ -20,8 +20,7 @@ use Rattle.level.specs.Level.{levels, place_at, StaysAt, passed_at}
 use Rattle.level.proofs.Passing.{set-set, none_passed, not-ended, one_more, passes-cell}
 use Rattle.levels.specs.Levels.{Out, took, one_taken}
 use Rattle.levels.proofs.StackLaws.{goes_on, stands, takes}
-use Rattle.walk.specs.declared.Walks.{Walks}
-use Rattle.walk.specs.Walk.{slices, walks_of, number_at, Walkable, is_ended, stepped, taken_at, stack_at, taken_of, taken_by, passed_on, Passable, Staying}
+use Rattle.walk.specs.Walk.{slices, number_at, Walkable, is_ended, stepped, taken_at, stack_at, taken_of, taken_by, passed_on, Passable, Staying}
 use Rattle.walk.proofs.WalkLaws.{number-place}
 
 -- what is left, from both ends
@@ -129,7 +128,7 @@ stretch-is us b ns nodes is n s a l most place w e stay left begun p q f h =
     let some : 0 < taken_at ns n b = rw e at (begun (omega arith)) in
     rw e (stays-in us b ns nodes is n a l most place w on left some p q (rw e at f))
 
-pub passes_on : (b : Bool) (w w' : Walks) (n s m : ℕ) → s ≡ bit b → w'.numbers ≡ set w.numbers (walk_numbers * n + 4 + s) (get_or w.numbers (walk_numbers * n + 4 + s) 0 + m)
-    → w'.levels.nodes ≡ w.levels.nodes → w'.levels.indices ≡ passed_at b w.levels.indices (walk_levels * (2 * n + s)) m → walks_of w' ≡ passed_on b (walks_of w) n m
+pub passes_on : (b : Bool) (ns : List ℕ) (is is' : List ℤ) (n s m : ℕ) → s ≡ bit b → is' ≡ passed_at b is (walk_levels * (2 * n + s)) m → (nodes : List ℕ)
+    → slices (set ns (walk_numbers * n + 4 + s) (get_or ns (walk_numbers * n + 4 + s) 0 + m)) nodes is' ≡ passed_on b (slices ns nodes is) n m
 unfolding passed_on
-passes_on b w w' n s m e c p q = rw (c, p, q, number-place n s b e, e)
+passes_on b ns is is' n s m e p nodes = rw (number-place n s b e, p, e)

@@ -55,6 +55,7 @@ pub all-clear : (w u : Levels) (e j : ℕ) → e ≤ j → cleared_from (e - j) 
 unfolding cleared_from
 all-clear w u e j l q = let s : e - j ≡ 0 = omega arith in rw s at q
 
+-- for callers: numbers in which a walk is opened, beside levels that stay
 pub opens : (w w' : Walks) (n : ℕ) (v : VersionRecord) → w'.levels ≡ w.levels → w'.numbers ≡ stored w.numbers n (open_record v) → walks_of w' ≡ opened (walks_of w) n v
 unfolding opened
 opens w w' n v e p = rw (e, p)

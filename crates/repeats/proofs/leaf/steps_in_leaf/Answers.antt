@@ -19,4 +19,4 @@ pub pass_on-requires : goal.pass_on-requires
 pass_on-requires c = can-pass _ _ _ _ _ c.in-Some.ensures.1 _ (omega (arith, c.answer_cells-end.ensures.stay))
 
 pub returns : goal.returns
-returns c = leaf-steps _ _ _ _ _ c.in-Some.ensures.1 _ _ _ _ _ _ _ _ _ _ _ c.answer_cells-end.ensures c.pass_on.ensures
+returns c = leaf-steps _ _ _ _ _ c.in-Some.ensures.1 _ _ _ _ _ _ _ _ _ _ _ c.answer_cells-end.ensures (c.pass_on.ensures _)

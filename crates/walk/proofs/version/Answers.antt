@@ -1,5 +1,5 @@
 use Rattle.walk.proofs.WalkLaws.{reads-version}
-use Rattle.walk.proofs.Walks.version.Goals as goal
+use Rattle.walk.proofs.version.Goals as goal
 
 pub returns : goal.returns
 returns c = reads-version _ _

@@ -1,6 +1,0 @@
-use mathlib.Core.Path.{refl}
-use Rattle.walk.proofs.LeafLaws.{passes_on}
-use Rattle.walk.proofs.Walks.pass_on.Goals as goal
-
-pub returns : goal.returns
-returns c = passes_on c.args.back _ _ _ _ _ c.side-s.ensures.0 refl c.pass.ensures.nodes c.pass.ensures.indices
