@@ -111,7 +111,9 @@ pub fn batch(
     };
     let mut walks = walk_copies::load(walk_numbers, walk_nodes, walk_indices);
     let mut table = versions;
-    runs::run(&mut store, cells, order, &mut table, &mut walks, requests, room, count);
+    runs::run(
+        &mut store, cells, order, &mut table, &mut walks, requests, room, count,
+    );
     walk_copies::store(&walks, walk_numbers, walk_nodes, walk_indices);
     Batched {
         outcome: Ok(count),

@@ -38,6 +38,15 @@ pub fn talk(
     let mut requests = [0u8; REQUEST_ROOM];
     let mut answers = [0u8; ANSWER_ROOM];
     let read = lines::read_lines(piece, begun, &mut marks, &mut requests);
-    runs::run(store, cells, order, versions, walks, &requests, &mut answers, read.frames);
+    runs::run(
+        store,
+        cells,
+        order,
+        versions,
+        walks,
+        &requests,
+        &mut answers,
+        read.frames,
+    );
     lines::print_answers(&marks[..read.lines], &answers, out)
 }

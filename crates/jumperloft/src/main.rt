@@ -49,7 +49,16 @@ fn answer_all(
         if n == 0 {
             break;
         }
-        let written = conversation::talk(store, cells, order, versions, walks, &piece[..n], &mut begun, &mut out);
+        let written = conversation::talk(
+            store,
+            cells,
+            order,
+            versions,
+            walks,
+            &piece[..n],
+            &mut begun,
+            &mut out,
+        );
         rt.stdout().write_all(&out[..written])?;
     }
     if begun.len > 0 {
@@ -85,5 +94,12 @@ fn main(rt: HostRuntime) {
         free: PROGRAM_NODES,
     };
     // Where the answers can't be written, nobody is left to tell.
-    let _ = answer_all(&rt, &mut store, &mut cells, &mut order, &mut versions, &mut walks);
+    let _ = answer_all(
+        &rt,
+        &mut store,
+        &mut cells,
+        &mut order,
+        &mut versions,
+        &mut walks,
+    );
 }
