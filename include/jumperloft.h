@@ -129,7 +129,7 @@ typedef struct jumperloft1_answer {
  *    it may be null only where the count is 0;
  *  - no two slices overlap, the requests and the room included;
  *  - no other call, and no other writer, is at work on the same state, requests or room;
- *  - JUMPERLOFT1_STACK_SIZE bytes of stack are left. A batch uses 533 KiB of stack at any number of nodes, for the audit
+ *  - JUMPERLOFT1_STACK_SIZE bytes of stack are left. A batch uses 534 KiB of stack at any number of nodes, for the audit
  *    has its tables there; with less it ends in a fault at the guard page below the stack, and never in silence. */
 
 /* The sizes of a state of so many nodes; all 0 where nodes is 0 or above JUMPERLOFT1_MAX_NODES. */
