@@ -27,7 +27,7 @@ impl NodeKind {
     }
 }
 
-// The lent slices, one entry a node in each, and how many nodes are free. The cells, 32 a node, and the free order, whose first `free` are the numbers of free nodes, are lent beside it: making nodes only reads the order, giving them back only the cells.
+// The lent slices, one entry a node in each, and how many nodes are free. The cells, 32 a node, and the free order, whose first `free` are the numbers of free nodes, are lent beside it: making nodes only reads the order, giving them back only reads the cells.
 #[derive(Drop)]
 pub struct Store<'a> {
     pub kinds: &'a mut [u8],
@@ -77,7 +77,6 @@ impl Store<'_> {
     }
 
     // Takes the node on top of the free order and writes it. The counts of its children are the caller's to raise.
-    #[tactic(auto, unfolding(crate::specs::Store::make))]
     pub fn make(
         &mut self,
         cells: &mut [u32],
