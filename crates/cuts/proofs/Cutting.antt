@@ -24,7 +24,7 @@ use Rattle.paths.specs.Paths.{Made, Source, source, branch_with, leaf_cut, branc
 use Rattle.paths.specs.Edits.{first_child}
 use Rattle.paths.specs.Ready.{made_of, HasCells, Fork, CanShare, WayToLast, Ready}
 use Rattle.paths.proofs.Steps.{recounted}
-use Rattle.paths.proofs.Ways.{room-made, room-others, length-slice-most, ready-lower, height-small, kept, share-after}
+use Rattle.paths.proofs.Ways.{room-made, room-others, length-slice-most, ready-lower, height-small, Kept, kept, share-after}
 
 -- ---- `index % (1 << (height * bits)) == 0`
 
@@ -115,18 +115,28 @@ pub drop-lower : (s : Store) (bits h n i : ℕ) (c : Source) (b : ℕ) → (h �
     → Ready s bits h (WayToLast s bits h n i) → Ready s bits (h - 1) (WayToLast s bits (h - 1) (get_or c.cells b 0) i)
 drop-lower s bits h n i c b ne p q r = ready-lower s bits h ne r (last-lower s bits h n i c b ne p q r.way).1
 
-pub drop-shares : (p q : code.Store) (cells cells' order : List ℕ) (bits h n i : ℕ) (c : Source) (b m : ℕ) → (h ≡ 0 → ⊥) → c ≡ source (nodes_with p cells) true n → b ≡ bucket bits h i
+drop-order : (s : Store) (bits h n i : ℕ) → (drop_last s bits h n i).store.order ≡ s.order
+unfolding drop_last leaf_cut branch_cut branch_with make
+drop-order s bits zero n i = refl
+drop-order s bits (suc h) n i = by (below s bits h n i) (divides (degree bits ^ suc h) i) (drop-order s bits h (get_or (source s.nodes true n).cells (bucket bits (suc h) i) 0) i)
+  where
+    by : (d : Made) (t : Bool) → d.store.order ≡ s.order → (dropped s bits h n i d t).store.order ≡ s.order
+    by d true e = refl
+    by d false e = e
+
+pub drop-shares : (p q : code.Store) (cells cells' order order' : List ℕ) (bits h n i : ℕ) (c : Source) (b m : ℕ) → (h ≡ 0 → ⊥) → c ≡ source (nodes_with p cells) true n → b ≡ bucket bits h i
     → b < node_cells → Ready (held p cells order) bits h (WayToLast (held p cells order) bits h n i)
-    → made_of (held q cells' order) m ≡ drop_last (held p cells order) bits (h - 1) (get_or c.cells b 0) i
-    → SameSlices p q → length cells' ≡ length cells → CanShare (held q cells' order) c b
-drop-shares p q cells cells' order bits h n i c b m ne x y l r e same z =
+    → made_of (held q cells' order') m ≡ drop_last (held p cells order) bits (h - 1) (get_or c.cells b 0) i
+    → SameSlices p q → length cells' ≡ length cells → CanShare (held q cells' order') c b
+drop-shares p q cells cells' order order' bits h n i c b m ne x y l r e same z =
     let s = held p cells order in
-    let s' = held q cells' order in
+    let s' = held q cells' order' in
     let w = last-lower s bits h n i c b ne x y r.way in
     let child = get_or c.cells b 0 in
     let f : s'.free ≡ (drop_last s bits (h - 1) child i).store.free = ap (λ (d : Made). d.store.free) e in
     let o = drop-free s bits (h - 1) child i in
-    let k = kept p q cells cells' order same z in
+    let kept-order : order' ≡ order = ap (λ (d : Made). d.store.order) e ∙ drop-order s bits (h - 1) child i in
+    let k : Kept s s' = rw kept-order (kept p q cells cells' order same z) in
     let small = height-small s bits h r in
     let some = pos_of_ne-zero ne in
     let room : Room node_cells (drop_last s bits (h - 1) child i).store.counts = drop-room s bits (h - 1) child i node_cells (omega arith) w.1 (room-less _ (node_cells * suc h) s.counts (omega arith) r.room) in

@@ -195,17 +195,28 @@ assoc-leaves s s' bits h k there n i v m l r w e =
     let room : Room node_cells (assoc s bits h there n i v).store.counts = assoc-room s bits h there n i v node_cells (omega arith) w (room-less _ (node_cells * suc k) s.counts (omega arith) r.room) in
     (omega (arith, r.enough), omega arith, rw (ap (λ (d : Made). d.store.counts) e) room)
 
-pub assoc-shares : (p q : code.Store) (cells cells' order : List ℕ) (bits h : ℕ) (there : Bool) (n i v : ℕ) (c : Source) (b : ℕ) (o : Option NodeNo) (x : NodeNo) (m : ℕ) → (h ≡ 0 → ⊥)
+assoc-order : (s : Store) (bits h : ℕ) (there : Bool) (n i v : ℕ) → (assoc s bits h there n i v).store.order ≡ s.order
+unfolding assoc leaf_with branch_with make
+assoc-order s bits zero there n i v = refl
+assoc-order s bits (suc h) there n i v = assoc-order s bits h (ltb (bucket bits (suc h) i) (source s.nodes there n).used) (get_or (source s.nodes there n).cells (bucket bits (suc h) i) 0) i v
+
+assoc-kept : (p q : code.Store) (cells cells' order order' : List ℕ) (bits h : ℕ) (there : Bool) (n i v m : ℕ) → SameSlices p q → length cells' ≡ length cells
+    → made_of (held q cells' order') m ≡ assoc (held p cells order) bits h there n i v → Kept (held p cells order) (held q cells' order')
+assoc-kept p q cells cells' order order' bits h there n i v m k z e =
+    let o : order' ≡ order = ap (λ (d : Made). d.store.order) e ∙ assoc-order (held p cells order) bits h there n i v in
+    rw o (kept p q cells cells' order k z)
+
+pub assoc-shares : (p q : code.Store) (cells cells' order order' : List ℕ) (bits h : ℕ) (there : Bool) (n i v : ℕ) (c : Source) (b : ℕ) (o : Option NodeNo) (x : NodeNo) (m : ℕ) → (h ≡ 0 → ⊥)
     → c ≡ source (nodes_with p cells) there n → b ≡ bucket bits h i → o ≡ then_some (ltb b c.used) x → x.0 ≡ get_or c.cells b 0 → b < node_cells
     → Ready (held p cells order) bits h (Way (held p cells order) bits h there n i)
-    → made_of (held q cells' order) m ≡ assoc (held p cells order) bits (h - 1) (is_some o) (node_number o) i v → SameSlices p q → length cells' ≡ length cells
-    → CanShare (held q cells' order) c b
-assoc-shares p q cells cells' order bits h there n i v c b o x m ne e f g k l r d same z =
+    → made_of (held q cells' order') m ≡ assoc (held p cells order) bits (h - 1) (is_some o) (node_number o) i v → SameSlices p q → length cells' ≡ length cells
+    → CanShare (held q cells' order') c b
+assoc-shares p q cells cells' order order' bits h there n i v c b o x m ne e f g k l r d same z =
     let s = held p cells order in
     let w = way-lower s bits h there n i c b ne e f r.way in
     let way = way-child s bits (h - 1) (ltb b c.used) (get_or c.cells b 0) i o x g k w.1 in
-    let left = assoc-leaves s (held q cells' order) bits (h - 1) h _ _ i v m (omega (arith, pos_of_ne-zero ne)) r way d in
-    share-after s (held q cells' order) bits h c b r (kept p q cells cells' order same z) l w.0 left.0 left.1 left.2
+    let left = assoc-leaves s (held q cells' order') bits (h - 1) h _ _ i v m (omega (arith, pos_of_ne-zero ne)) r way d in
+    share-after s (held q cells' order') bits h c b r (assoc-kept p q cells cells' order order' bits (h - 1) _ _ i v m same z d) l w.0 left.0 left.1 left.2
 
 -- ---- `grow`
 
@@ -218,15 +229,15 @@ unfolding AllBelow
 one_below n root xs h zero l = h
 one_below n root xs h (suc i) l = absurd (omega arith)
 
-pub grow-shares : (p q : code.Store) (cells cells' order : List ℕ) (bits h root i v m : ℕ) → Ready (held p cells order) bits (suc h) (WayBeyond (held p cells order) bits h root i)
-    → made_of (held q cells' order) m ≡ assoc (held p cells order) bits h false 0 i v → SameSlices p q → length cells' ≡ length cells
-    → CanShare (held q cells' order) (over_root root) 1
-grow-shares p q cells cells' order bits h root i v m r e k z =
+pub grow-shares : (p q : code.Store) (cells cells' order order' : List ℕ) (bits h root i v m : ℕ) → Ready (held p cells order) bits (suc h) (WayBeyond (held p cells order) bits h root i)
+    → made_of (held q cells' order') m ≡ assoc (held p cells order) bits h false 0 i v → SameSlices p q → length cells' ≡ length cells
+    → CanShare (held q cells' order') (over_root root) 1
+grow-shares p q cells cells' order order' bits h root i v m r e k z =
     let s = held p cells order in
-    let o = assoc-leaves s (held q cells' order) bits h (suc h) false 0 i v m (omega arith) r r.way.1 e in
+    let o = assoc-leaves s (held q cells' order') bits h (suc h) false 0 i v m (omega arith) r r.way.1 e in
     let n = node_count s in
     let f : Fork n (over_root root) 1 = record { few = omega arith; next = omega arith; children = one_below n root (replicate (node_cells - 1) 0) r.way.0 } in
-    share-after s (held q cells' order) bits (suc h) (over_root root) 1 r (kept p q cells cells' order k z) (omega arith) f o.0 o.1 o.2
+    share-after s (held q cells' order') bits (suc h) (over_root root) 1 r (assoc-kept p q cells cells' order order' bits h false 0 i v m k z e) (omega arith) f o.0 o.1 o.2
 
 pub root-grown : (s : Store) (bits h root i v : ℕ) (r m : Made) → r ≡ assoc s bits h false 0 i v → m ≡ branch_with (over_root root) 1 r → m ≡ grow s bits h root i v
 unfolding grow

@@ -23,7 +23,7 @@ pub drop_last-copy-requires : goal.drop_last-copy-requires
 drop_last-copy-requires t c = (omega (arith, c.decreases, pos_of_ne-zero c.if-height-eq0.false), drop-lower _ _ c.args.height c.args.node.0 c.args.last _ _ c.if-height-eq0.false c.source_in-c.ensures c.bucket-b.ensures.value c.requires)
 
 pub branch_with-requires : goal.branch_with-requires
-branch_with-requires t c = drop-shares _ _ _ _ _ _ c.args.height c.args.node.0 c.args.last _ _ _ c.if-height-eq0.false c.source_in-c.ensures c.bucket-b.ensures.value c.bucket-b.ensures.cell c.requires c.drop_last-copy.ensures.made c.drop_last-copy.ensures.same_slices c.drop_last-copy.auto.cells
+branch_with-requires t c = drop-shares _ _ _ _ _ _ _ c.args.height c.args.node.0 c.args.last _ _ _ c.if-height-eq0.false c.source_in-c.ensures c.bucket-b.ensures.value c.bucket-b.ensures.cell c.requires c.drop_last-copy.ensures.made c.drop_last-copy.ensures.same_slices c.drop_last-copy.auto.cells
 
 pub returns-clause-made : goal.returns-clause-made
 returns-clause-made t c = let a = c.args in branch-drop _ a.bits a.height a.node.0 a.last _ _ _ _ c.if-height-eq0.false (sym c.is_first.ensures ∙ c.if-is_first.false) c.source_in-c.ensures c.bucket-b.ensures.value c.drop_last-copy.ensures.made c.branch_with.ensures.made

@@ -19,7 +19,7 @@ assoc-copy-requires t c = (
 )
 
 pub branch_with-requires : goal.branch_with-requires
-branch_with-requires t c = assoc-shares _ _ _ _ _ _ c.args.height _ _ c.args.index c.args.value _ _ _ _ _ c.if-height-eq0.false c.source_in-c.ensures c.bucket-b.ensures.value c.then_some-child.ensures refl c.bucket-b.ensures.cell c.requires c.assoc-copy.ensures.made c.assoc-copy.ensures.same_slices c.assoc-copy.auto.cells
+branch_with-requires t c = assoc-shares _ _ _ _ _ _ _ c.args.height _ _ c.args.index c.args.value _ _ _ _ _ c.if-height-eq0.false c.source_in-c.ensures c.bucket-b.ensures.value c.then_some-child.ensures refl c.bucket-b.ensures.cell c.requires c.assoc-copy.ensures.made c.assoc-copy.ensures.same_slices c.assoc-copy.auto.cells
 
 pub returns-clause-made : goal.returns-clause-made
 returns-clause-made t c =
